@@ -1,18 +1,18 @@
 -- Sets of numbers as words: which numbers a word holds after an operation on words, and each test of a set as one test of a word, which is
 -- how the code makes it. Of 32 bits, `2 ^ 32 - 1 - w` is what the code writes `!w`. Assumes nothing.
 use Prim.Native.Nat.{ℕ, zero, suc, _+_, _-_, _*_, _/_, _%_, _^_, _≤_, _<_, zero-le}
-use native.Mathlib.Nat.{div-one, zero-div, zero-mod, mod-lt, pow-suc, div-add-mod', le-of-suc-le-suc, not-suc-le-zero, le-refl, mul-mod-left, zero-add, mul-div-cancel}
+use native.Mathlib.Nat.{div-one, zero-div, mod-lt, pow-suc, div-add-mod', le-of-suc-le-suc, not-suc-le-zero, le-refl, mul-mod-left, zero-add, mul-div-cancel}
 use native.Mathlib.Omega.{arith}
 use mathlib.Core.Path.{_≡_, refl, sym, ap, _∙_}
-use mathlib.Core.Bool.{Bool, true, false, not, _&&_, _||_, Bool·not-not}
+use mathlib.Core.Bool.{Bool, false, not, _&&_, _||_, Bool·not-not}
 use lib.Arith.{lt-one, digits-div, digits-mod}
-use lib.Bits.{bitAnd, bitOr, and-shr, or-shr, and-mod, or-mod, and-lt, shifted-half, shifted-even}
+use lib.Bits.{bitAnd, bitOr, and-shr, or-shr, and-mod, or-mod, and-lt}
 use lib.Count.{onesIn, ones, ones-step}
 use lib.Dec.{T, eqb, ltb, eqb·zero-suc, eqb·suc-zero, eqb·suc-suc, leb·suc-zero, leb·suc-suc, lit<}
-use lib.Pow.{pow-pos, shr-shr}
+use lib.Pow.{shr-shr}
 use borrow.Author.Tests.{eqb-true, eqb-false, eq-eqb, ne-eqb, lt-ltb}
 use Rattle.model.specs.Lists.{_⇒_}
-use Rattle.model.specs.Words.{setBits, member, size, everyBelow, allIn}
+use Rattle.model.specs.Words.{member, size, everyBelow, allIn}
 use Rattle.model.proofs.Tests.{by-test, passes}
 
 -- ---- the digits of a word
