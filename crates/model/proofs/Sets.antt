@@ -117,15 +117,21 @@ none-below (suc n) w l =
     let rest = everyBelow-ext n _ _ (λ j k. ap not (member-half w j)) ∙ none-below n (w / 2) (half-small n l) in
     rw (everyBelow-low n (λ j. not (member w j)), member-low w, rest) (sym (zero-digits w))
 
+all-half : (n w m : ℕ) → everyBelow n (λ j. member w (suc j) ⇒ ltb (suc j) (suc m)) ≡ everyBelow n (λ j. member (w / 2) j ⇒ ltb j m)
+all-half n w m =
+    everyBelow-ext n (λ j. member w (suc j) ⇒ ltb (suc j) (suc m)) (λ j. member (w / 2) j ⇒ ltb j m)
+    (λ j k. rw (member-half w j, leb·suc-suc (suc j) m))
+
 all-below : (n w m : ℕ) → w < 2 ^ n → everyBelow n (λ j. member w j ⇒ ltb j m) ≡ eqb (w / 2 ^ m) 0
 unfolding everyBelow _⇒_
 all-below zero w m l = rw (lt-one l, zero-div)
 all-below (suc n) w zero l =
-    everyBelow-ext (suc n) (λ j. member w j ⇒ ltb j 0) (λ j. not (member w j)) (λ j k. rw (leb·suc-zero j) (by-test (member w j) (λ q. rw q) (λ q. rw q)))
+    everyBelow-ext (suc n) (λ j. member w j ⇒ ltb j 0) (λ j. not (member w j))
+    (λ j k. rw (leb·suc-zero j) (by-test (member w j) (λ q. rw q) (λ q. rw q)))
     ∙ none-below (suc n) w l
     ∙ ap (λ (v : ℕ). eqb v 0) (sym (div-one w))
 all-below (suc n) w (suc m) l =
-    let halved = everyBelow-ext n (λ j. member w (suc j) ⇒ ltb (suc j) (suc m)) (λ j. member (w / 2) j ⇒ ltb j m) (λ j k. rw (member-half w j, leb·suc-suc (suc j) m)) ∙ all-below n (w / 2) m (half-small n l) in
+    let halved = all-half n w m ∙ all-below n (w / 2) m (half-small n l) in
     rw (everyBelow-low n (λ j. member w j ⇒ ltb j (suc m)), halved, lt-ltb 0 (suc m) (omega arith), half-shr w m)
     (by-test (member w 0) (λ q. rw q) (λ q. rw q))
 
@@ -181,6 +187,6 @@ size-few = ones-few 32
 pub size-zero : (w : ℕ) → w < 2 ^ 32 → eqb (size w) 0 ≡ eqb w 0
 size-zero = ones-zero 32
 
--- the code's `w.count_ones()`
+-- the code's `u32::count_ones(w)`
 pub size-ones : (w : ℕ) → w < 2 ^ 32 → ones w ≡ size w
 size-ones = ones-all 32
