@@ -6,7 +6,7 @@ use native.Mathlib.Omega.{arith}
 use native.Mathlib.Decide.{decLe}
 use mathlib.Core.Path.{_≡_, refl, sym, ap, subst, _∙_}
 use mathlib.Core.Logic.{_≢_, _↔_, by-cases}
-use mathlib.Core.Bool.{Bool, true, not}
+use mathlib.Core.Bool.{not}
 use mathlib.Core.Option.{Option, none, some}
 use mathlib.Core.List.{List, [], _∷_, _++_, map}
 use lib.ListN.{length, getD}
@@ -16,12 +16,12 @@ use Rattle.model.specs.Lists.{if_then_else_, any}
 use Rattle.model.specs.Words.{isClosing}
 use Rattle.model.specs.Refusal.{noFault, tooLarge, emptyBoard, truncated}
 use Rattle.model.specs.Format.{Format}
-use Rattle.model.specs.Types.{Row, rowOf, fits}
-use Rattle.model.specs.History.{History, placeOf, history}
+use Rattle.model.specs.Types.{Row, rowOf}
+use Rattle.model.specs.History.{placeOf, history}
 use Rattle.model.specs.Counted.{counted}
 use Rattle.model.specs.Audit.{Outcome, unread, refused, accepted, Check, firstUnmet, checks, faultIn, fault, closing, judged, items, audit, itemLimit, isTooLarge, isShort, isEmpty, ballotRow, closingOk}
-use Rattle.model.specs.Reasons.{Reason, NoneOf, FirstOf, startReasons, listedWith, EndsAt, ClosesAt, HeadAt, itemReasons, closingReasons, Reached, Answers, atStart, atEmpty, atEnd, atItem, atClosing, acceptance}
-use Rattle.model.proofs.Tests.{tests, by-test, passes, neither, if-yes, if-no, by-if}
+use Rattle.model.specs.Reasons.{Reason, NoneOf, FirstOf, startReasons, listedWith, ClosesAt, HeadAt, itemReasons, closingReasons, Reached, Answers, atStart, atEmpty, atEnd, atItem, atClosing, acceptance}
+use Rattle.model.proofs.Tests.{tests, by-test, passes, neither, if-yes, if-no}
 use Rattle.model.proofs.Lists.{Every}
 use Rattle.model.proofs.Unchecked.{length-history}
 use Rattle.model.proofs.Steps.{itemsFrom, judged-refused, items-start, items-ended, items-closing, items-full, items-refused, items-passed}
