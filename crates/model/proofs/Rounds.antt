@@ -8,15 +8,16 @@ use mathlib.Core.Path.{_≡_, refl, sym, ap, subst, _∙_}
 use mathlib.Core.Bool.{Bool, true, false, not, _&&_, _||_, and-false, or-true, or-false}
 use mathlib.Core.List.{List, [], _∷_, _++_}
 use lib.Bits.{bitOr, or-lt}
-use lib.ListN.{length}
-use lib.Dec.{T, eqb, eqb·suc-zero, eqb→eq}
-use borrow.Author.Tests.{eqb-true, eqb-false, eq-eqb, ne-eqb}
-use Rattle.model.specs.Lists.{if_then_else_, any, keep, latest}
-use Rattle.model.specs.Words.{member}
+use lib.ListN.{length, getD, take, drop, length-take, List·getD-eq-default}
+use lib.Seq.{getD-take, getD-drop}
+use lib.Dec.{T, eqb, ltb, eqb·suc-zero, eqb→eq}
+use borrow.Author.Tests.{eqb-true, eqb-false, ltb-true, ltb-false, eq-eqb, ne-eqb}
+use Rattle.model.specs.Lists.{if_then_else_, part, any, keep, latest}
+use Rattle.model.specs.Words.{countOf, member}
 use Rattle.model.specs.Codes.{roundType}
 use Rattle.model.specs.Format.{Format}
-use Rattle.model.specs.Item.{Item, code, word}
-use Rattle.model.specs.History.{History, Entry, absent, entry, entryOf, itemNo, itemsWith, last, lastFrom, typed}
+use Rattle.model.specs.Item.{Item, itemAt, contentAt, code, word}
+use Rattle.model.specs.History.{History, Entry, absent, entry, entryOf, itemNo, itemsWith, last, lastFrom, typed, placeOf, history}
 use Rattle.model.specs.Phase.{roundNumber, roundContests, sameRound, rounds, isOpen}
 use Rattle.model.specs.Content.{enables, roundOk}
 use Rattle.model.specs.Sound.{Meets, Passed, none, next}
@@ -64,7 +65,7 @@ module _ (p : ℕ → Bool) where
       (λ e. rw (← eqb-true k n e, q))
       (λ e. rw (anyBelow-found n k (omega (arith, eqb-false k n e)) q) (or-true (p n)))
 
--- where r passes at n and where q does, which does not at n
+-- r passes where q does, which does not at n, and perhaps at n
 anyBelow-put : (m n : ℕ) (q r : ℕ → Bool) → n < m → q n ≡ false → ((j : ℕ) → (n ≡ j → ⊥) → r j ≡ q j)
     → anyBelow m r ≡ (r n || anyBelow m q)
 unfolding anyBelow
@@ -245,11 +246,36 @@ module _ (p : Item → Bool) where
       (λ j l. rw (last-any (numbered j) h)
       (passes-last (numbered j) p absent h ∙ ap (λ (e : Entry). any (numbered j) h && p (e .item)) (sym (entry-last (numbered j) h))))
 
--- ---- the contests that the open rounds enable
+-- ---- content words are words of 32 bits
 
--- every content word is a word of 32 bits
 abbrev pub WordsSmall : Entry → Type 0
 WordsSmall e = (k : ℕ) → word k (e .item) < 2 ^ 32
+
+-- item number k, and all items of a run of words
+pub entry-words : (h : History) → Every WordsSmall h → (k : ℕ) → WordsSmall (entry h k)
+unfolding entry
+entry-words h words zero c = omega arith
+entry-words [] words (suc k) c = omega arith
+entry-words (e ∷ es) words (suc zero) c = words .0 c
+entry-words (e ∷ es) words (suc (suc k)) c = entry-words es (words .1) (suc k) c
+
+part-words : (ws : List ℕ) → ((k : ℕ) → getD ws k 0 < 2 ^ 32) → (p n k : ℕ) → getD (part p n ws) k 0 < 2 ^ 32
+unfolding part
+part-words ws small p n k =
+    by-test (ltb k n)
+    (λ q. rw (getD-take n (drop p ws) k 0 (ltb-true k n q), getD-drop p ws k 0) (small (p + k)))
+    (λ q. let past : length (take n (drop p ws)) ≤ k = simp length-take (omega (arith, ltb-false k n q)) in
+    rw (List·getD-eq-default (take n (drop p ws)) 0 past) (omega arith))
+
+pub history-words : (f : Format) (ws : List ℕ) → ((k : ℕ) → getD ws k 0 < 2 ^ 32) → (n : ℕ) → Every WordsSmall (history f ws n)
+unfolding history entryOf itemAt
+history-words f ws small zero = tt
+history-words f ws small (suc n) =
+    let p = placeOf f ws n in
+    every-snoc WordsSmall (history f ws n) (entryOf (history f ws n) p (itemAt f ws p)) (history-words f ws small n)
+    (λ k. part-words ws small (contentAt p) (countOf (getD ws p 0)) k)
+
+-- ---- the contests that the open rounds enable
 
 -- those of the round with the number j, where there is one and it is open at the time t
 unfoldable pub openContests : ℕ → History → ℕ → ℕ
@@ -274,13 +300,6 @@ member-enabled t j h small =
     ∙ anyBelow-ext slots (λ k. member (openContests t h k) j) (λ k. not (eqb (roundAt h k) 0) && enables t j (itemNo h (roundAt h k)))
     (λ k l. let r = itemNo h (roundAt h k) in member-if (not (eqb (roundAt h k) 0)) (isOpen t r) (roundContests r) j)
     ∙ sym (any-rounds (enables t j) h small)
-
-pub entry-words : (h : History) → Every WordsSmall h → (k : ℕ) → WordsSmall (entry h k)
-unfolding entry
-entry-words h words zero c = omega arith
-entry-words [] words (suc k) c = omega arith
-entry-words (e ∷ es) words (suc zero) c = words .0 c
-entry-words (e ∷ es) words (suc (suc k)) c = entry-words es (words .1) (suc k) c
 
 pub enabledSet-small : (t : ℕ) (h : History) → Every WordsSmall h → enabledSet t h < 2 ^ 32
 unfolding enabledSet openContests

@@ -1,15 +1,15 @@
 -- Sets of numbers as words: which numbers a word holds after an operation on words, and each test of a set as one test of a word, which is
 -- how the code makes it. Of 32 bits, `2 ^ 32 - 1 - w` is what the code writes `!w`. Assumes nothing.
 use Prim.Native.Nat.{ℕ, zero, suc, _+_, _-_, _*_, _/_, _%_, _^_, _≤_, _<_, zero-le}
-use native.Mathlib.Nat.{div-one, zero-div, mod-lt, pow-suc, div-add-mod', le-of-suc-le-suc, not-suc-le-zero, le-refl, mul-mod-left, zero-add, mul-div-cancel}
+use native.Mathlib.Nat.{div-one, zero-div, mod-lt, mod-eq-of-lt, one-mul, pow-suc, div-add-mod', le-of-suc-le-suc, not-suc-le-zero, le-refl, mul-mod-left, zero-add, mul-div-cancel}
 use native.Mathlib.Omega.{arith}
 use mathlib.Core.Path.{_≡_, refl, sym, ap, _∙_}
-use mathlib.Core.Bool.{Bool, false, not, _&&_, _||_, Bool·not-not}
+use mathlib.Core.Bool.{Bool, true, false, not, _&&_, _||_, Bool·not-not}
 use lib.Arith.{lt-one, digits-div, digits-mod}
 use lib.Bits.{bitAnd, bitOr, and-shr, or-shr, and-mod, or-mod, and-lt}
 use lib.Count.{onesIn, ones, ones-step}
 use lib.Dec.{T, eqb, ltb, eqb·zero-suc, eqb·suc-zero, eqb·suc-suc, leb·suc-zero, leb·suc-suc, lit<}
-use lib.Pow.{shr-shr}
+use lib.Pow.{pow-lt, shr-shr}
 use borrow.Author.Tests.{eqb-true, eqb-false, eq-eqb, ne-eqb, lt-ltb}
 use Rattle.model.specs.Lists.{_⇒_}
 use Rattle.model.specs.Words.{member, size, everyBelow, allIn}
@@ -65,6 +65,10 @@ member-one zero (suc j) = rw (member-half 1 j, eqb·zero-suc j) (member-zero j)
 member-one (suc i) zero = rw (member-low (2 ^ suc i), eqb·suc-zero i, pow-suc 2 i, mul-mod-left (2 ^ i) 2)
 member-one (suc i) (suc j) = rw (member-half (2 ^ suc i) j, eqb·suc-suc i j, pow-suc 2 i, mul-div-cancel (2 ^ i) two-pos) (member-one i j)
 
+-- the code's `1 << i`
+pub one-shl : (i : ℕ) → i < 32 → (1 * 2 ^ i) % 2 ^ 32 ≡ 2 ^ i
+one-shl i l = rw one-mul (mod-eq-of-lt (pow-lt l))
+
 -- what w leaves of n + 1 ones: what its half leaves of n ones, and the other digit
 not-digits : (n w : ℕ) → w < 2 ^ suc n → 2 ^ suc n - 1 - w ≡ (2 ^ n - 1 - w / 2) * 2 + (1 - w % 2)
 not-digits n w l = omega (arith, pow-suc 2 n, div-add-mod' w 2, mod-lt w two-pos)
@@ -113,15 +117,21 @@ none-below (suc n) w l =
     let rest = everyBelow-ext n _ _ (λ j k. ap not (member-half w j)) ∙ none-below n (w / 2) (half-small n l) in
     rw (everyBelow-low n (λ j. not (member w j)), member-low w, rest) (sym (zero-digits w))
 
+all-half : (n w m : ℕ) → everyBelow n (λ j. member w (suc j) ⇒ ltb (suc j) (suc m)) ≡ everyBelow n (λ j. member (w / 2) j ⇒ ltb j m)
+all-half n w m =
+    everyBelow-ext n (λ j. member w (suc j) ⇒ ltb (suc j) (suc m)) (λ j. member (w / 2) j ⇒ ltb j m)
+    (λ j k. rw (member-half w j, leb·suc-suc (suc j) m))
+
 all-below : (n w m : ℕ) → w < 2 ^ n → everyBelow n (λ j. member w j ⇒ ltb j m) ≡ eqb (w / 2 ^ m) 0
 unfolding everyBelow _⇒_
 all-below zero w m l = rw (lt-one l, zero-div)
 all-below (suc n) w zero l =
-    everyBelow-ext (suc n) (λ j. member w j ⇒ ltb j 0) (λ j. not (member w j)) (λ j k. rw (leb·suc-zero j) (by-test (member w j) (λ q. rw q) (λ q. rw q)))
+    everyBelow-ext (suc n) (λ j. member w j ⇒ ltb j 0) (λ j. not (member w j))
+    (λ j k. rw (leb·suc-zero j) (by-test (member w j) (λ q. rw q) (λ q. rw q)))
     ∙ none-below (suc n) w l
     ∙ ap (λ (v : ℕ). eqb v 0) (sym (div-one w))
 all-below (suc n) w (suc m) l =
-    let halved = everyBelow-ext n (λ j. member w (suc j) ⇒ ltb (suc j) (suc m)) (λ j. member (w / 2) j ⇒ ltb j m) (λ j k. rw (member-half w j, leb·suc-suc (suc j) m)) ∙ all-below n (w / 2) m (half-small n l) in
+    let halved = all-half n w m ∙ all-below n (w / 2) m (half-small n l) in
     rw (everyBelow-low n (λ j. member w j ⇒ ltb j (suc m)), halved, lt-ltb 0 (suc m) (omega arith), half-shr w m)
     (by-test (member w 0) (λ q. rw q) (λ q. rw q))
 
@@ -147,6 +157,12 @@ pub allIn-below : (w m : ℕ) → w < 2 ^ 32 → allIn w (λ j. ltb j m) ≡ eqb
 unfolding allIn
 allIn-below w m l = all-below 32 w m l
 
+pub allIn-wide : (w m : ℕ) → 32 ≤ m → allIn w (λ j. ltb j m) ≡ true
+unfolding allIn everyBelow _⇒_
+allIn-wide w m l =
+    everyBelow-ext 32 (λ j. member w j ⇒ ltb j m) (λ j. true)
+    (λ j k. rw (lt-ltb j m (omega arith)) (by-test (member w j) (λ q. rw q) (λ q. rw q)))
+
 -- ---- how many numbers a set has
 
 ones-few : (n w : ℕ) → onesIn n w ≤ n
@@ -171,6 +187,6 @@ size-few = ones-few 32
 pub size-zero : (w : ℕ) → w < 2 ^ 32 → eqb (size w) 0 ≡ eqb w 0
 size-zero = ones-zero 32
 
--- the code's `w.count_ones()`
+-- the code's `u32::count_ones(w)`
 pub size-ones : (w : ℕ) → w < 2 ^ 32 → ones w ≡ size w
 size-ones = ones-all 32
