@@ -110,11 +110,11 @@ contests-ok h w all l =
     )
 
 -- contests of a ballot: the code's `w & !(session & enabled) == 0`
-pub ballot-ok : (h : History) (i : Item) (w : ℕ) → Every RoundSmall h → Every WordsSmall h → w < 2 ^ 32
+pub allIn-mayVote : (h : History) (i : Item) (w : ℕ) → Every RoundSmall h → Every WordsSmall h → w < 2 ^ 32
     → allIn w (mayVote h i)
     ≡ eqb (bitAnd w ((2 ^ 32 - 1) - bitAnd (sessionContests (itemNo h (sessionNumber h i))) (enabledSet (time i) h))) 0
 unfolding mayVote
-ballot-ok h i w small words l =
+allIn-mayVote h i w small words l =
     let s = sessionContests (itemNo h (sessionNumber h i)) in
     let u = enabledSet (time i) h in
     let both : (j : ℕ) → mayVote h i j ≡ member (bitAnd s u) j =
