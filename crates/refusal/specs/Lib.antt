@@ -1,0 +1,2 @@
+-- The paper's numbers of the refusals.
+pub mod Number
