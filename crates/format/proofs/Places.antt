@@ -97,3 +97,7 @@ module _ (ws : List ℕ) (p : ℕ) where
   pub word-is : (k : ℕ) → k < itemOf ws p .head .count → word k (itemAt base ws p) ≡ getD ws (itemOf ws p .content + k) 0
   unfolding itemOf itemAt part
   word-is k h = rw (getD-take, getD-drop)
+
+  pub word-at : (k : ℕ) → k < countOf (getD ws p 0) → word k (itemAt base ws p) ≡ getD ws (p + 1 + k) 0
+  unfolding itemAt part
+  word-at k h = rw (getD-take, getD-drop)
