@@ -14,12 +14,12 @@ use Rattle.model.specs.Format.{Format}
 use Rattle.model.specs.Item.{unsigned}
 use Rattle.model.specs.History.{History, main, mainItems, mainItem, endAddress}
 use Rattle.model.specs.Audit.{Outcome, unread, refused, accepted, audit}
-use Rattle.model.specs.Report.{reportOf, indexRows, ballotRows, filled, tableAfter, indexAfter, ballotsAfter, outside, Refuses}
+use Rattle.model.specs.Report.{reportOf, indexRows, ballotRows, filled, tableAfter, indexAfter, ballotsAfter, outside, Refuses, NoSuch}
 use Rattle.model.specs.Counted.{counted}
 use Rattle.model.specs.Sound.{Sound}
 use Rattle.model.specs.Compare.{Comparison, same, compare, Compared}
 use Rattle.model.specs.Alone.{SameStart}
-use Rattle.model.specs.Comparing.{Board, keptBoard, laterBoard, ComparingAnswer, refusedBoard, compared, answerLater, comparingAnswer, laterAfter, laterIndexAfter, laterBallotsAfter, NoSuchMain, Answered}
+use Rattle.model.specs.Comparing.{Board, keptBoard, laterBoard, ComparingAnswer, refusedBoard, compared, answerLater, comparingAnswer, laterAfter, laterIndexAfter, laterBallotsAfter, Answered}
 use Rattle.model.proofs.Tests.{tests, by-if, if-no, if-yes, neither}
 use Rattle.model.proofs.Lists.{count-keep}
 use Rattle.model.proofs.Parts.{map-take}
@@ -82,7 +82,7 @@ module _ (f : Format) (b n k : ℕ) where
 
   -- with an accepted kept board, the later one is named with its own refusal, or with 19
   later-named : (g : History) (later : Outcome) → Numbered later
-      → (answerLater g later b ≡ refusedBoard laterBoard n k) ↔ (Refuses f later n k ⊎ NoSuchMain later b n k)
+      → (answerLater g later b ≡ refusedBoard laterBoard n k) ↔ (Refuses f later n k ⊎ NoSuch (count main) later b n k)
   unfolding answerLater reportOf
   later-named g (unread m) some = (
     λ e. let q : m ≡ n = cc in inl (record { refusal = omega arith; number = q; items = cc }),
@@ -93,15 +93,15 @@ module _ (f : Format) (b n k : ℕ) where
     ⊎-elim (λ r. cc) (λ s. let z : _≡_ {A = ℕ} 0 1 = cc in absurd (omega arith)),
   )
   later-named g (accepted h) some = (
-    by-if (λ r. r ≡ refusedBoard laterBoard n k → Refuses f (accepted h) n k ⊎ NoSuchMain (accepted h) b n k) (outside b (count main h)) _ _
-        (λ t e. inr (record { history = h; accepts = refl; outsideOf = t; number = cc; items = cc }))
+    by-if (λ r. r ≡ refusedBoard laterBoard n k → Refuses f (accepted h) n k ⊎ NoSuch (count main) (accepted h) b n k) (outside b (count main h)) _ _
+        (λ t e. inr (record { history = h; accepts = refl; isOutside = t; number = cc; items = cc }))
         (λ t e. let z : _≡_ {A = ℕ} 0 1 = cc in absurd (omega arith)),
     ⊎-elim (λ r. absurd (omega arith))
-        (λ s. let same : s .history ≡ h = cc in if-yes (outside b (count main h)) _ _ (rw same at (s .outsideOf)) ∙ cc),
+        (λ s. let same : s .history ≡ h = cc in if-yes (outside b (count main h)) _ _ (rw same at (s .isOutside)) ∙ cc),
   )
 
   later-named-after : (kept later : Outcome) → Numbered later
-      → (comparingAnswer kept later b ≡ refusedBoard laterBoard n k) ↔ ((g : History) × (kept ≡ accepted g) × (Refuses f later n k ⊎ NoSuchMain later b n k))
+      → (comparingAnswer kept later b ≡ refusedBoard laterBoard n k) ↔ ((g : History) × (kept ≡ accepted g) × (Refuses f later n k ⊎ NoSuch (count main) later b n k))
   unfolding comparingAnswer
   later-named-after (unread m) later some = (
     λ e. let z : _≡_ {A = ℕ} 0 1 = cc in absurd (omega arith),
@@ -151,7 +151,7 @@ module _ (f : Format) (kb kv lb lv ki kt li lt : List ℕ) (b : ℕ) where
   names-kept n k = kept-named f b n k kept later (audit-numbered f kb kv (length ki) (length kt))
 
   pub names-later : (n k : ℕ)
-      → (comparingAnswer kept later b ≡ refusedBoard laterBoard n k) ↔ ((g : History) × (kept ≡ accepted g) × (Refuses f later n k ⊎ NoSuchMain later b n k))
+      → (comparingAnswer kept later b ≡ refusedBoard laterBoard n k) ↔ ((g : History) × (kept ≡ accepted g) × (Refuses f later n k ⊎ NoSuch (count main) later b n k))
   names-later n k = later-named-after f b n k kept later (audit-numbered f lb lv (length li) (length lt))
 
   pub later-tables-keep : (length (laterIndexAfter kept later li) ≡ length li) × (length (laterBallotsAfter kept later lt) ≡ length lt)

@@ -5,7 +5,6 @@ use mathlib.Core.Path.{_≡_}
 use mathlib.Core.Logic.{_↔_}
 use mathlib.Core.List.{List}
 use lib.ListN.{length}
-use lib.Dec.{T}
 use Rattle.model.specs.Lists.{if_then_else_, count}
 use Rattle.model.specs.Refusal.{noSuchItem}
 use Rattle.model.specs.Format.{Format}
@@ -54,17 +53,7 @@ laterIndexAfter kept later s = laterAfter kept s (indexAfter later s)
 abbrev pub laterBallotsAfter : Outcome → Outcome → List ℕ → List ℕ
 laterBallotsAfter kept later s = laterAfter kept s (ballotsAfter later s)
 
--- ---- what is promised
-
--- 19: the later board is accepted, with k items, and main number b is not one of its
-pub record NoSuchMain (later : Outcome) (b n k : ℕ) : Type 0 where
-  pub history : History
-  pub accepts : later ≡ accepted history
-  pub outsideOf : T (outside b (count main history))
-  pub number : n ≡ noSuchItem
-  pub items : k ≡ length history
-
--- of two accepted boards, the kept one with the history g and the later one with the history h,
+-- ---- what is promised of the answer for two accepted boards, the kept one with the history g and the later one with the history h,
 -- where main number b is one of the later board's
 
 pub record Answered (f : Format) (g h : History) (b : ℕ) (answer : ComparingAnswer) : Type 0 where
