@@ -1,32 +1,27 @@
 -- What the comparing entry answers and leaves: which board a refusal names, what the buffers hold, and demand 3 of two accepted boards.
 -- Paper: "Comparing takes a kept board". Assumes nothing.
-use Prim.Native.Nat.{ℕ, suc, _≤_}
+use Prim.Native.Nat.{ℕ, _≤_}
 use native.Mathlib.Omega.{arith}
-use mathlib.Core.Path.{_≡_, refl, sym, ap, _∙_, subst}
+use mathlib.Core.Path.{_≡_, refl, ap, _∙_}
 use mathlib.Core.Logic.{_↔_, Iff·trans, _⊎_, inl, inr, ⊎-elim}
-use mathlib.Core.Bool.{not}
 use mathlib.Core.List.{List}
 use lib.ListN.{length, length-map}
-use lib.Dec.{T, eqb, ltb}
-use Rattle.model.specs.Lists.{if_then_else_, count}
-use Rattle.model.specs.Refusal.{noSuchItem}
+use Rattle.model.specs.Lists.{count}
 use Rattle.model.specs.Format.{Format}
 use Rattle.model.specs.Item.{unsigned}
-use Rattle.model.specs.History.{History, main, mainItems, mainItem, endAddress}
+use Rattle.model.specs.History.{History, main, mainItems}
 use Rattle.model.specs.Audit.{Outcome, unread, refused, accepted, audit}
-use Rattle.model.specs.Report.{reportOf, indexRows, ballotRows, filled, tableAfter, indexAfter, ballotsAfter, outside, Refuses, NoSuch}
-use Rattle.model.specs.Counted.{counted}
+use Rattle.model.specs.Report.{reportOf, filled, tableAfter, outside, Refuses, NoSuch}
 use Rattle.model.specs.Sound.{Sound}
-use Rattle.model.specs.Compare.{Comparison, same, compare, Compared}
+use Rattle.model.specs.Compare.{Comparison, same, compare}
 use Rattle.model.specs.Alone.{SameStart}
-use Rattle.model.specs.Comparing.{Board, keptBoard, laterBoard, ComparingAnswer, refusedBoard, compared, answerLater, comparingAnswer, laterAfter, laterIndexAfter, laterBallotsAfter, Answered}
+use Rattle.model.specs.Comparing.{keptBoard, laterBoard, refusedBoard, compared, answerLater, comparingAnswer, laterAfter, laterIndexAfter, laterBallotsAfter, Answered}
 use Rattle.model.proofs.Tests.{tests, by-if, if-no, if-yes, neither}
 use Rattle.model.proofs.Lists.{count-keep}
 use Rattle.model.proofs.Parts.{map-take}
 use Rattle.model.proofs.Alone.{same-start}
 use Rattle.model.proofs.Comparison.{end-is, comparing}
 use Rattle.model.proofs.Acceptance.{accepted↔sound}
-use Rattle.model.proofs.AcceptedSound.{Right, audit-right}
 use Rattle.model.proofs.Report.{tables-keep, Numbered, audit-numbered}
 
 -- ---- two accepted boards, and a main number of the later one

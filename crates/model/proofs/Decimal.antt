@@ -1,6 +1,6 @@
 -- Decimal digits: they have the number's value, no zero in front, and are the same for every bound on their number that is large enough.
 -- Paper: "Numbers are decimal". Assumes nothing.
-use Prim.Native.Nat.{ℕ, zero, suc, _+_, _-_, _*_, _/_, _%_, _^_, _≤_, _<_}
+use Prim.Native.Nat.{ℕ, zero, suc, _/_, _%_, _^_, _≤_, _<_}
 use native.Mathlib.Omega.{arith}
 use mathlib.Core.Path.{_≡_, refl, sym, _∙_}
 use mathlib.Core.Logic.{_≢_}
@@ -8,19 +8,13 @@ use mathlib.Core.List.{List, [], _∷_, _++_}
 use lib.ListN.{length, getD, length-append, List·getD-append}
 use lib.Dec.{ltb}
 use borrow.Author.Tests.{ltb-false, lt-ltb}
-use Rattle.model.specs.Lists.{if_then_else_}
-use Rattle.model.specs.Program.{digit, digits, decimal}
+use Rattle.model.specs.Program.{digit, digits, decimal, valueFrom}
 use Rattle.model.proofs.Tests.{by-test}
 
 -- a number has at most as many digits as itself, and one
 pub enough : (n : ℕ) → n < 10 ^ suc n
 enough zero = omega arith
 enough (suc n) = omega (arith, enough n)
-
--- the value of decimal digits behind a number
-unfoldable pub valueFrom : ℕ → List ℕ → ℕ
-valueFrom n [] = n
-valueFrom n (d ∷ ds) = valueFrom (n * 10 + (d - 48)) ds
 
 value-append : (n : ℕ) (ds es : List ℕ) → valueFrom n (ds ++ es) ≡ valueFrom (valueFrom n ds) es
 unfolding valueFrom

@@ -1,22 +1,21 @@
 -- What the ancestry entry answers and leaves: which refusal it gives, and what its list buffer holds.
 -- Paper: "One entry lists an item's ancestry". Assumes nothing.
-use Prim.Native.Nat.{ℕ, zero, suc, _-_, _≤_, _<_}
+use Prim.Native.Nat.{ℕ, zero, suc, _-_, _≤_}
 use native.Mathlib.Nat.{sub-zero}
 use native.Mathlib.Omega.{arith}
 use mathlib.Core.Path.{_≡_, refl, sym, ap, _∙_}
 use mathlib.Core.Logic.{_↔_, _⊎_, inl, inr, ⊎-elim}
 use mathlib.Core.Bool.{not, _||_}
-use mathlib.Core.List.{List, [], _∷_, _++_}
+use mathlib.Core.List.{List, []}
 use lib.ListN.{length, getD, replicate}
 use lib.Dec.{T, ltb}
-use Rattle.model.specs.Lists.{if_then_else_}
-use Rattle.model.specs.Refusal.{tooLarge, shortTable, noSuchItem}
+use Rattle.model.specs.Refusal.{tooLarge, shortTable}
 use Rattle.model.specs.Format.{Format}
 use Rattle.model.specs.History.{History}
-use Rattle.model.specs.Audit.{Outcome, unread, refused, accepted, audit, itemLimit, isTooLarge, isShort, indexNeed, ballotNeed}
+use Rattle.model.specs.Audit.{Outcome, unread, refused, accepted, audit, isTooLarge, isShort, indexNeed, ballotNeed}
 use Rattle.model.specs.Report.{reportOf, Refuses, NoSuch, filled, tableAfter, indexAfter, ballotsAfter, outside}
 use Rattle.model.specs.Sound.{Sound, Passed}
-use Rattle.model.specs.Ancestry.{ancestry, listNeed, ancestryAudit, AncestryAnswer, unlisted, listed, ancestryAnswer, written, listAfter, Line, ends, climbs, Lists}
+use Rattle.model.specs.Ancestry.{ancestry, listNeed, ancestryAudit, unlisted, listed, ancestryAnswer, written, listAfter, Line, ends, climbs, Lists}
 use Rattle.model.proofs.Tests.{tests, by-if, if-no, if-yes, neither, or-else}
 use Rattle.model.proofs.Acceptance.{accepted↔sound}
 use Rattle.model.proofs.Ancestry.{ancestry-line, line-length}

@@ -1,37 +1,32 @@
 -- What the program prints: it needs of both files only their byte counts and as many words as it has room for, and what it prints for empty
 -- files, for a sound board, and for genesis alone. Paper: "The auditing program". Assumes nothing.
-use Prim.Native.Nat.{ℕ, zero, suc, _+_, _*_, _/_, _≤_, _<_}
+use Prim.Native.Nat.{ℕ, zero, suc, _*_, _/_, _≤_, _<_}
 use native.Mathlib.Omega.{arith}
 use mathlib.Core.Path.{_≡_, refl, sym, ap, _∙_}
-use mathlib.Core.Bool.{Bool, not, _||_}
+use mathlib.Core.Bool.{not, _||_}
 use mathlib.Core.Option.{Option, none, some}
 use mathlib.Core.List.{List, [], _∷_, append-nil}
 use lib.ListN.{length, getD, take, length-append, length-take}
 use lib.Seq.{take-all}
 use lib.Dec.{T, eqb, eqb→eq, leb, ltb}
 use borrow.Author.Tests.{ltb-false, leb-false, eqb-true, eqb-false, eq-eqb, ne-eqb}
-use Rattle.model.specs.Lists.{if_then_else_, count, keep, latest, any}
-use Rattle.model.specs.Words.{countOf, isClosing}
-use Rattle.model.specs.Refusal.{noFault, truncated, tooLarge}
+use Rattle.model.specs.Lists.{if_then_else_, count, keep, latest}
+use Rattle.model.specs.Words.{countOf}
 use Rattle.model.specs.Format.{Format, secp256r1, verdictSize}
 use Rattle.model.specs.Item.{itemLength, behind, code}
 use Rattle.model.specs.Types.{Row, rowOf, fits, table}
-use Rattle.model.specs.History.{History, grown, entryOf, main}
+use Rattle.model.specs.History.{History, main}
 use Rattle.model.specs.Counted.{counted, totalWeight}
-use Rattle.model.specs.Audit.{Outcome, unread, refused, accepted, firstUnmet, checks, verdictOf, faultIn, fault, closing, judged, wordAt, items, audit, itemLimit, indexNeed, ballotNeed, ballotRow, closingOk, isTooLarge, isShort, isEmpty}
+use Rattle.model.specs.Audit.{Outcome, accepted, faultIn, fault, closing, judged, wordAt, items, audit, itemLimit, indexNeed, ballotNeed}
 use Rattle.model.specs.Report.{ballotRows}
 use Rattle.model.specs.Sound.{Passed, next, Sound}
-use Rattle.model.specs.Program.{fromBytes, bytesPerWord, programLimit, verdictLimit, isWhole, sizeFault, sized, programOutcome, filesOutcome, digits, spaced, refusedLine, acceptedLine, rowLines, textOf, printed}
+use Rattle.model.specs.Program.{fromBytes, bytesPerWord, programLimit, leastItem, programItems, verdictLimit, isWhole, sizeFault, sized, programOutcome, filesOutcome, digits, spaced, refusedLine, acceptedLine, rowLines, textOf, printed}
 use Rattle.model.proofs.Tests.{tests, by-test, is-true, by-if, if-no, neither, not-not}
 use Rattle.model.proofs.Parts.{part-take}
 use Rattle.model.proofs.Parsing.{length-words}
 use Rattle.model.proofs.Table.{countType, count-type-law}
 use Rattle.model.proofs.Entries.{orderly, typed-main, first-genesis}
 use Rattle.model.proofs.Acceptance.{accepted↔sound}
-
--- the fewest words of an item in the base
-abbrev pub leastItem : ℕ
-leastItem = 43
 
 -- ---- verdict words past 3,430
 
@@ -108,7 +103,7 @@ words-least least Passed.none = omega arith
 words-least {f} least (next ws vs h v i p m) = simp length-append (omega (arith, words-least least p, length-words f i (m .shaped)))
 
 -- a board that the program takes has at most 381 items
-pub few-items : {f : Format} {ws vs : List ℕ} {h : History} → leastItem ≤ itemLength f 0 → Sound f ws vs h → length ws ≤ programLimit → length h ≤ 381
+pub few-items : {f : Format} {ws vs : List ℕ} {h : History} → leastItem ≤ itemLength f 0 → Sound f ws vs h → length ws ≤ programLimit → length h ≤ programItems
 few-items least s l = omega (arith, words-least least (s .passed), simp length-append at (ap length (s .closed)))
 
 -- ---- files

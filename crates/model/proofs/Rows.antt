@@ -5,13 +5,13 @@ use native.Mathlib.Nat.{zero-add}
 use native.Mathlib.Omega.{arith}
 use native.Mathlib.Decide.{decLe}
 use mathlib.Core.Path.{_≡_, refl, sym, ap, _∙_}
-use mathlib.Core.Logic.{_≢_, by-cases}
-use mathlib.Core.Bool.{Bool, true, false, _||_}
+use mathlib.Core.Logic.{by-cases}
+use mathlib.Core.Bool.{Bool, true, false}
 use mathlib.Core.List.{List, [], _∷_, map}
-use lib.ListN.{length, getD, take, drop, length-drop, List·getD-map}
+use lib.ListN.{length, getD, drop, length-drop, List·getD-map}
 use lib.Dec.{T, eqb}
 use borrow.Author.Tests.{eq-eqb, eqb-true}
-use Rattle.model.specs.Lists.{if_then_else_, part, any, keep, latest, has}
+use Rattle.model.specs.Lists.{part, any, keep, latest, has}
 use Rattle.model.specs.Codes.{castType}
 use Rattle.model.specs.Format.{Format}
 use Rattle.model.specs.Item.{code}
@@ -21,7 +21,7 @@ use Rattle.model.specs.Counted.{Vote, voteOf, votesIn, sameVoter, counte
 use Rattle.model.specs.Audit.{indexRow}
 use Rattle.model.specs.Report.{indexRows, indexRowOf}
 use Rattle.model.specs.Sound.{Passed}
-use Rattle.model.proofs.Tests.{by-test, passes, is-true, or-left, or-right}
+use Rattle.model.proofs.Tests.{by-test, passes, or-left, or-right}
 use Rattle.model.proofs.Lists.{Every, any-of-map, turns, map-keep}
 use Rattle.model.proofs.Numbers.{keep-entry}
 use Rattle.model.proofs.Votes.{voters-latest}

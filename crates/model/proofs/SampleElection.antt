@@ -10,7 +10,7 @@ use Rattle.model.specs.Words.{kindOf, codeOf, countOf, sameWords, pair, 
 use Rattle.model.specs.Format.{Format, secp256r1, keySize}
 use Rattle.model.specs.Item.{Item, itemLength, itemAt, hashed, wordsOf}
 use Rattle.model.specs.Types.{rowOf, rowIn, table, fits}
-use Rattle.model.specs.History.{History, entry, firstFrom, lastFrom, mainItem, endAfter, endAddress, parentNumber, sessionNumber, entryOf, placeOf, history}
+use Rattle.model.specs.History.{entry, firstFrom, lastFrom, mainItem, endAfter, endAddress, parentNumber, sessionNumber, entryOf, placeOf, history}
 use Rattle.model.specs.Counted.{voteOf, counted, contents, totalWeight}
 use Rattle.model.specs.Links.{addressOk, previousOk, parentOk, timeOk}
 use Rattle.model.specs.Phase.{rounds, isOpen, extractionOk, openOk, standingOk, latestOk, intentOk, phaseOk}

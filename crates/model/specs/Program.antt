@@ -1,6 +1,6 @@
 -- The auditing program: which words it makes of the bytes of two files, which sizes it refuses, and the bytes that it prints.
 -- Paper: "The auditing program"; "Words on the shelf" (files). Assumes nothing.
-use Prim.Native.Nat.{ℕ, zero, suc, _+_, _*_, _/_, _%_, _^_}
+use Prim.Native.Nat.{ℕ, zero, suc, _+_, _-_, _*_, _/_, _%_, _^_}
 use mathlib.Core.Bool.{Bool, not, _||_}
 use mathlib.Core.List.{List, [], _∷_, _++_}
 use lib.ListN.{length}
@@ -30,7 +30,14 @@ fromBytes [] = []
 abbrev pub programLimit : ℕ
 programLimit = 16384
 
--- "Such a board has at most 381 items, so verdict words past 3,430 are only counted."
+-- "Such a board has at most 381 items": an item has at least 43 words
+abbrev pub leastItem : ℕ
+leastItem = 43
+
+abbrev pub programItems : ℕ
+programItems = 381
+
+-- "so verdict words past 3,430 are only counted"
 abbrev pub verdictLimit : ℕ
 verdictLimit = 3430
 
@@ -90,6 +97,11 @@ digits (suc k) n = if ltb n 10 then digit n ∷ [] else digits k (n / 10) ++ (di
 -- all of them: n has at most n + 1
 abbrev pub decimal : ℕ → List ℕ
 decimal n = digits n n
+
+-- the value of decimal digits behind the number n
+unfoldable pub valueFrom : ℕ → List ℕ → ℕ
+valueFrom n [] = n
+valueFrom n (d ∷ ds) = valueFrom (n * 10 + (d - digit 0)) ds
 
 -- numbers, each behind a space
 unfoldable pub spaced : List ℕ → List ℕ
