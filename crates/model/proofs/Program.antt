@@ -12,6 +12,7 @@ use lib.Dec.{T, eqb, eqb→eq, leb, ltb}
 use borrow.Author.Tests.{ltb-false, leb-false, eqb-true, eqb-false, eq-eqb, ne-eqb}
 use Rattle.model.specs.Lists.{if_then_else_, count, keep, latest}
 use Rattle.model.specs.Words.{countOf}
+use Rattle.model.specs.Refusal.{tooLarge, truncated}
 use Rattle.model.specs.Format.{Format, secp256r1, verdictSize}
 use Rattle.model.specs.Item.{itemLength, behind, code}
 use Rattle.model.specs.Types.{Row, rowOf, fits, table}
@@ -21,7 +22,7 @@ use Rattle.model.specs.Audit.{Outcome, accepted, faultIn, fault, closing
 use Rattle.model.specs.Report.{ballotRows}
 use Rattle.model.specs.Sound.{Passed, next, Sound}
 use Rattle.model.specs.Program.{fromBytes, bytesPerWord, programLimit, leastItem, programItems, verdictLimit, isWhole, sizeFault, sized, programOutcome, filesOutcome, digits, spaced, refusedLine, acceptedLine, rowLines, textOf, printed}
-use Rattle.model.proofs.Tests.{tests, by-test, is-true, by-if, if-no, neither, not-not}
+use Rattle.model.proofs.Tests.{tests, by-test, is-true, by-if, if-yes, if-no, neither, not-not}
 use Rattle.model.proofs.Parts.{part-take}
 use Rattle.model.proofs.Parsing.{length-words}
 use Rattle.model.proofs.Table.{countType, count-type-law}
@@ -124,6 +125,16 @@ size-fine board verdicts e =
     (λ t. by-if (λ n. n ≡ 0 → board / bytesPerWord ≤ programLimit) (ltb programLimit (board / bytesPerWord)) _ _ (λ u q. absurd (omega arith)) (λ u q. omega (arith, tests)))
     e
 
+size-odd : (board verdicts : ℕ) → T (not (isWhole board) || not (isWhole verdicts)) → sizeFault board verdicts ≡ truncated
+unfolding sizeFault
+size-odd board verdicts t = if-yes (not (isWhole board) || not (isWhole verdicts)) _ _ t
+
+size-over : (board verdicts : ℕ) → T (isWhole board) → T (isWhole verdicts) → programLimit < board / bytesPerWord → sizeFault board verdicts ≡ tooLarge
+unfolding sizeFault
+size-over board verdicts b v l =
+    if-no (not (isWhole board) || not (isWhole verdicts)) _ _ (simp (neither, not-not) (b, v))
+    ∙ if-yes (ltb programLimit (board / bytesPerWord)) _ _ (omega (arith, tests))
+
 size-zero : (board verdicts : ℕ) → T (isWhole board) → T (isWhole verdicts) → board / bytesPerWord ≤ programLimit → sizeFault board verdicts ≡ 0
 unfolding sizeFault
 size-zero board verdicts b v l =
@@ -146,6 +157,17 @@ module _ (f : Format) (board verdicts : List ℕ) where
       let short : length (fromBytes board) ≤ programLimit = rw length-from-bytes (size-fine (length board) (length verdicts) e) in
       rw (take-all programLimit (fromBytes board) short) (audit-cut f (fromBytes board) (fromBytes verdicts) ballotNeed least short indexNeed)
 
+  -- "if either file's byte count isn't a multiple of 4, it is refused as 4 with 0", whatever else is wrong
+  pub odd-size : T (not (isWhole (length board)) || not (isWhole (length verdicts))) → printed f board verdicts ≡ refusedLine truncated 0
+  unfolding filesOutcome sized textOf
+  odd-size t = rw (size-odd (length board) (length verdicts) t)
+
+  -- "a board of at most 16,384 words (more is refused as 1)"
+  pub over-size : T (isWhole (length board)) → T (isWhole (length verdicts)) → programLimit < length (fromBytes board)
+      → printed f board verdicts ≡ refusedLine tooLarge 0
+  unfolding filesOutcome sized textOf
+  over-size b v l = rw (size-over (length board) (length verdicts) b v (rw length-from-bytes at l))
+
   -- a sound board that fits the program is printed as accepted
   pub sound-printed : {h : History} → T (isWhole (length board)) → T (isWhole (length verdicts)) → length (fromBytes board) ≤ programLimit
       → Sound f (fromBytes board) (fromBytes verdicts) h → printed f board verdicts ≡ textOf (accepted h)
@@ -154,7 +176,12 @@ module _ (f : Format) (board verdicts : List ℕ) where
       rw (size-zero (length board) (length verdicts) wholeBoard wholeVerdicts (rw length-from-bytes at short))
       (ap textOf (accepted↔sound f (fromBytes board) (fromBytes verdicts) indexNeed ballotNeed h .1 (sound, omega arith, omega arith)))
 
--- ---- the paper's two samples
+-- ---- samples
+
+-- "high byte first": the paper's first head word
+pub high-byte-first : fromBytes (0x10 ∷ 0x01 ∷ 0x00 ∷ 0x11 ∷ []) ≡ 0x10010011 ∷ []
+unfolding fromBytes
+high-byte-first = refl
 
 -- "Empty files print the single line `refused 3 at 0`."
 pub empty-printed : (f : Format) → printed f [] [] ≡ 114 ∷ 101 ∷ 102 ∷ 117 ∷ 115 ∷ 101 ∷ 100 ∷ 32 ∷ 51 ∷ 32 ∷ 97 ∷ 116 ∷ 32 ∷ 48 ∷ 10 ∷ []
