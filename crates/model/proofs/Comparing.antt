@@ -11,7 +11,7 @@ use Rattle.model.specs.Format.{Format}
 use Rattle.model.specs.Item.{unsigned}
 use Rattle.model.specs.History.{History, main, mainItems}
 use Rattle.model.specs.Audit.{Outcome, unread, refused, accepted, audit}
-use Rattle.model.specs.Report.{reportOf, filled, tableAfter, outside, Refuses, NoSuch}
+use Rattle.model.specs.Report.{reportOf, outside, Refuses, NoSuch}
 use Rattle.model.specs.Sound.{Sound}
 use Rattle.model.specs.Compare.{Comparison, same, compare}
 use Rattle.model.specs.Alone.{SameStart}
@@ -121,11 +121,6 @@ later-unchanged (accepted g) held left r = absurd (omega arith)
 pub later-audited : {g : History} (kept : Outcome) (held left : List ℕ) → kept ≡ accepted g → laterAfter kept held left ≡ left
 unfolding laterAfter
 later-audited kept held left e = rw e
-
--- a table of an accepted board is filled
-pub stays-filled : {h : History} (o : Outcome) (rows : History → List ℕ) (s : List ℕ) → o ≡ accepted h → tableAfter o rows s ≡ filled (length s) (rows h)
-unfolding tableAfter
-stays-filled o rows s e = rw e
 
 later-keeps : (kept : Outcome) (held left : List ℕ) → length left ≡ length held → length (laterAfter kept held left) ≡ length held
 unfolding laterAfter

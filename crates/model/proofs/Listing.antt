@@ -15,11 +15,11 @@ use Rattle.model.specs.History.{History}
 use Rattle.model.specs.Audit.{Outcome, unread, refused, accepted, audit, isTooLarge, isShort, indexNeed, ballotNeed}
 use Rattle.model.specs.Report.{reportOf, Refuses, NoSuch, filled, tableAfter, indexAfter, ballotsAfter, outside}
 use Rattle.model.specs.Sound.{Sound, Passed}
-use Rattle.model.specs.Ancestry.{ancestry, listNeed, ancestryAudit, unlisted, listed, ancestryAnswer, written, listAfter, Line, ends, climbs, Lists}
+use Rattle.model.specs.Ancestry.{ancestry, listNeed, ancestryAudit, unlisted, listed, ancestryAnswer, written, listAfter, Line, ends, climbs, HoldsAncestry}
 use Rattle.model.proofs.Tests.{tests, by-if, if-no, if-yes, neither, or-else}
 use Rattle.model.proofs.Acceptance.{accepted↔sound}
 use Rattle.model.proofs.Ancestry.{ancestry-line, line-length}
-use Rattle.model.proofs.Report.{Numbered, audit-numbered, length-filled, filled-rows, filled-rest, filled-at, table-keeps, tables-keep}
+use Rattle.model.proofs.Report.{Numbered, audit-numbered, length-filled, filled-rows, filled-rest, filled-at, table-keeps, table-unchanged, table-zero, tables-keep}
 
 -- ---- the audit of this entry: 1, then 2 for any of the three buffers, then the rest
 
@@ -114,7 +114,7 @@ module _ (h : History) (k : ℕ) (s : List ℕ) where
 
 module _ {f : Format} {ws vs : List ℕ} {h : History} (p : Passed f ws vs h) (k : ℕ) (one : 1 ≤ k) (all : k ≤ length h) (s : List ℕ)
     (long : length h ≤ length s) where
-  lists : Lists h k (length (ancestry h k)) (listAfter (accepted h) k s)
+  lists : HoldsAncestry h k (length (ancestry h k)) (listAfter (accepted h) k s)
   lists =
       let numbers = ancestry h k in
       let line = ancestry-line p k one all in
@@ -142,7 +142,7 @@ module _ (f : Format) (ws vs s t l : List ℕ) (k : ℕ) where
 
   -- an item of an accepted board: its ancestry is listed
   pub listed-entry : {h : History} → outcome ≡ accepted h → 1 ≤ k → k ≤ length h
-      → (ancestryAnswer outcome k ≡ listed (length (ancestry h k))) × Lists h k (length (ancestry h k)) (listAfter outcome k l)
+      → (ancestryAnswer outcome k ≡ listed (length (ancestry h k))) × HoldsAncestry h k (length (ancestry h k)) (listAfter outcome k l)
   unfolding ancestryAnswer
   listed-entry {h} e one all =
       let (sound, wide, roomy, long) = accepted-listing f ws vs (length s) (length t) (length l) h .0 e in
@@ -151,13 +151,11 @@ module _ (f : Format) (ws vs s t l : List ℕ) (k : ℕ) where
 
   -- the list buffer is unchanged under the word limit and 2
   pub list-unchanged : {n : ℕ} → outcome ≡ unread n → listAfter outcome k l ≡ l
-  unfolding tableAfter
-  list-unchanged e = rw e
+  list-unchanged e = table-unchanged outcome (written k) l e
 
   -- and zero under any other refusal, the audit's and 19
   pub list-cleared : {n i : ℕ} → outcome ≡ refused n i → listAfter outcome k l ≡ replicate (length l) 0
-  unfolding tableAfter
-  list-cleared e = rw e
+  list-cleared e = table-zero outcome (written k) l e
 
   pub list-cleared-outside : {h : History} → outcome ≡ accepted h → T (outside k (length h)) → listAfter outcome k l ≡ replicate (length l) 0
   list-cleared-outside {h} e u = rw e (list-zero h k l u)
