@@ -108,6 +108,26 @@ module _ (f : Format) (b n k : ℕ) where
   )
   later-named-after (accepted g) later some = (λ e. (g, refl, later-named g later some .0 e), λ (g′, e, r). later-named g later some .1 r)
 
+-- ---- an answer other than a refusal: both boards are accepted, and b is a main number of the later one
+
+inside-later : (g : History) (later : Outcome) (b : ℕ) (c : Comparison) → answerLater g later b ≡ compared c
+    → (h : History) × (later ≡ accepted h) × (1 ≤ b) × (b ≤ count main h)
+unfolding answerLater
+inside-later g (unread n) b c e = let z : _≡_ {A = ℕ} 0 1 = cc in absurd (omega arith)
+inside-later g (refused n k) b c e = let z : _≡_ {A = ℕ} 0 1 = cc in absurd (omega arith)
+inside-later g (accepted h) b c e =
+    by-if (λ r. r ≡ compared c → (i : History) × (accepted h ≡ accepted i) × (1 ≤ b) × (b ≤ count main i)) (outside b (count main h)) _ _
+    (λ t q. let z : _≡_ {A = ℕ} 0 1 = cc in absurd (omega arith))
+    (λ t q. let n = simp neither at t in (h, refl, omega (arith, tests), omega (arith, tests)))
+    e
+
+pub compares-only : (kept later : Outcome) (b : ℕ) (c : Comparison) → comparingAnswer kept later b ≡ compared c
+    → (g : History) × (h : History) × (kept ≡ accepted g) × (later ≡ accepted h) × (1 ≤ b) × (b ≤ count main h)
+unfolding comparingAnswer
+compares-only (unread n) later b c e = let z : _≡_ {A = ℕ} 0 1 = cc in absurd (omega arith)
+compares-only (refused n k) later b c e = let z : _≡_ {A = ℕ} 0 1 = cc in absurd (omega arith)
+compares-only (accepted g) later b c e = let (h, q, one, all) = inside-later g later b c e in (g, h, refl, q, one, all)
+
 -- ---- the tables
 
 -- a table of the later board is as it was, if the kept board is refused

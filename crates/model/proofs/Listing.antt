@@ -84,6 +84,17 @@ module _ (f : Format) (k n i : ℕ) where
         (λ s. let same : s .history ≡ h = cc in if-yes (outside k (length h)) _ _ (rw same at (s .isOutside)) ∙ cc),
   )
 
+-- a list is answered of an accepted board's items only
+pub lists-only : (o : Outcome) (k n : ℕ) → ancestryAnswer o k ≡ listed n → (h : History) × (o ≡ accepted h) × (1 ≤ k) × (k ≤ length h)
+unfolding ancestryAnswer
+lists-only (unread m) k n e = let z : _≡_ {A = ℕ} 0 1 = cc in absurd (omega arith)
+lists-only (refused m i) k n e = let z : _≡_ {A = ℕ} 0 1 = cc in absurd (omega arith)
+lists-only (accepted h) k n e =
+    by-if (λ r. r ≡ listed n → (i : History) × (accepted h ≡ accepted i) × (1 ≤ k) × (k ≤ length i)) (outside k (length h)) _ _
+    (λ t q. let z : _≡_ {A = ℕ} 0 1 = cc in absurd (omega arith))
+    (λ t q. let m = simp neither at t in (h, refl, omega (arith, tests), omega (arith, tests)))
+    e
+
 -- ---- a line of numbers
 
 line-first : {h : History} {k : ℕ} {ks : List ℕ} → Line h k ks → getD ks 0 0 ≡ k
