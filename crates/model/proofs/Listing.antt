@@ -1,0 +1,192 @@
+-- What the ancestry entry answers and leaves: which refusal it gives, and what its list buffer holds.
+-- Paper: "One entry lists an item's ancestry". Assumes nothing.
+use Prim.Native.Nat.{ℕ, zero, suc, _-_, _≤_}
+use native.Mathlib.Nat.{sub-zero}
+use native.Mathlib.Omega.{arith}
+use mathlib.Core.Path.{_≡_, refl, sym, ap, _∙_}
+use mathlib.Core.Logic.{_↔_, _⊎_, inl, inr, ⊎-elim}
+use mathlib.Core.Bool.{not, _||_}
+use mathlib.Core.List.{List, []}
+use lib.ListN.{length, getD, replicate}
+use lib.Dec.{T, ltb}
+use Rattle.model.specs.Refusal.{tooLarge, shortTable}
+use Rattle.model.specs.Format.{Format}
+use Rattle.model.specs.History.{History}
+use Rattle.model.specs.Audit.{Outcome, unread, refused, accepted, audit, isTooLarge, isShort, indexNeed, ballotNeed}
+use Rattle.model.specs.Report.{reportOf, Refuses, NoSuch, filled, tableAfter, indexAfter, ballotsAfter, outside}
+use Rattle.model.specs.Sound.{Sound, Passed}
+use Rattle.model.specs.Ancestry.{ancestry, listNeed, ancestryAudit, unlisted, listed, ancestryAnswer, written, listAfter, Line, ends, climbs, HoldsAncestry}
+use Rattle.model.proofs.Tests.{tests, by-if, if-no, if-yes, neither, or-else}
+use Rattle.model.proofs.Acceptance.{accepted↔sound}
+use Rattle.model.proofs.Ancestry.{ancestry-line, line-length}
+use Rattle.model.proofs.Report.{Numbered, audit-numbered, length-filled, filled-rows, filled-rest, filled-at, table-keeps, table-unchanged, table-zero, tables-keep}
+
+-- ---- the audit of this entry: 1, then 2 for any of the three buffers, then the rest
+
+module _ (f : Format) (ws vs : List ℕ) (index ballots list : ℕ) where
+  pub too-large : T (isTooLarge ws) → ancestryAudit f ws vs index ballots list ≡ unread tooLarge
+  unfolding ancestryAudit
+  too-large t = if-yes (isTooLarge ws) _ _ t
+
+  pub short-buffer : T (not (isTooLarge ws)) → T (isShort index ballots || ltb list listNeed) → ancestryAudit f ws vs index ballots list ≡ unread shortTable
+  unfolding ancestryAudit audit
+  short-buffer t u =
+      if-no (isTooLarge ws) _ _ t
+      ∙ by-if (λ o. o ≡ unread shortTable) (ltb list listNeed) _ _ (λ s. refl)
+      (λ s. if-no (isTooLarge ws) _ _ t ∙ if-yes (isShort index ballots) _ _ (or-else (isShort index ballots) (ltb list listNeed) u s))
+
+  pub as-audited : listNeed ≤ list → ancestryAudit f ws vs index ballots list ≡ audit f ws vs index ballots
+  unfolding ancestryAudit audit
+  as-audited l =
+      by-if (λ o. o ≡ audit f ws vs index ballots) (isTooLarge ws) _ _ (λ t. sym (if-yes (isTooLarge ws) _ _ t))
+      (λ t. if-no (ltb list listNeed) _ _ (omega (arith, tests)))
+
+  -- a property of every outcome
+  by-audit : (P : Outcome → Type 0) → P (unread tooLarge) → P (unread shortTable) → (listNeed ≤ list → P (audit f ws vs index ballots))
+      → P (ancestryAudit f ws vs index ballots list)
+  unfolding ancestryAudit
+  by-audit P large short rest =
+      by-if P (isTooLarge ws) _ _ (λ t. large)
+      λ t. by-if P (ltb list listNeed) _ _ (λ u. short) (λ u. rest (omega (arith, tests)))
+
+  numbered : Numbered (ancestryAudit f ws vs index ballots list)
+  numbered = by-audit Numbered (omega arith) (omega arith) (λ l. audit-numbered f ws vs index ballots)
+
+  -- accepted exactly where the board is sound and the three buffers are long enough
+  pub accepted-listing : (h : History)
+      → (ancestryAudit f ws vs index ballots list ≡ accepted h) ↔ (Sound f ws vs h × (indexNeed ≤ index) × (ballotNeed ≤ ballots) × (listNeed ≤ list))
+  accepted-listing h = (
+    by-audit (λ o. o ≡ accepted h → Sound f ws vs h × (indexNeed ≤ index) × (ballotNeed ≤ ballots) × (listNeed ≤ list))
+        (λ e. let z : _≡_ {A = ℕ} 0 1 = cc in absurd (omega arith))
+        (λ e. let z : _≡_ {A = ℕ} 0 1 = cc in absurd (omega arith))
+        (λ l e. let (sound, wide, roomy) = accepted↔sound f ws vs index ballots h .0 e in (sound, wide, roomy, l)),
+    λ (sound, wide, roomy, l). as-audited l ∙ accepted↔sound f ws vs index ballots h .1 (sound, wide, roomy),
+  )
+
+-- ---- the answer
+
+module _ (f : Format) (k n i : ℕ) where
+  pub unlisted-is : (o : Outcome) → Numbered o → (ancestryAnswer o k ≡ unlisted n i) ↔ (Refuses f o n i ⊎ NoSuch length o k n i)
+  unfolding ancestryAnswer reportOf
+  unlisted-is (unread m) some = (
+    λ e. let q : m ≡ n = cc in inl (record { refusal = omega arith; number = q; items = cc }),
+    ⊎-elim (λ r. cc) (λ s. let z : _≡_ {A = ℕ} 0 1 = cc in absurd (omega arith)),
+  )
+  unlisted-is (refused m j) some = (
+    λ e. let q : m ≡ n = cc in inl (record { refusal = omega arith; number = q; items = cc }),
+    ⊎-elim (λ r. cc) (λ s. let z : _≡_ {A = ℕ} 0 1 = cc in absurd (omega arith)),
+  )
+  unlisted-is (accepted h) some = (
+    by-if (λ r. r ≡ unlisted n i → Refuses f (accepted h) n i ⊎ NoSuch length (accepted h) k n i) (outside k (length h)) _ _
+        (λ t e. inr (record { history = h; accepts = refl; isOutside = t; number = cc; items = cc }))
+        (λ t e. let z : _≡_ {A = ℕ} 0 1 = cc in absurd (omega arith)),
+    ⊎-elim (λ r. absurd (omega arith))
+        (λ s. let same : s .history ≡ h = cc in if-yes (outside k (length h)) _ _ (rw same at (s .isOutside)) ∙ cc),
+  )
+
+-- a list is answered of an accepted board's items only
+pub lists-only : (o : Outcome) (k n : ℕ) → ancestryAnswer o k ≡ listed n → (h : History) × (o ≡ accepted h) × (1 ≤ k) × (k ≤ length h)
+unfolding ancestryAnswer
+lists-only (unread m) k n e = let z : _≡_ {A = ℕ} 0 1 = cc in absurd (omega arith)
+lists-only (refused m i) k n e = let z : _≡_ {A = ℕ} 0 1 = cc in absurd (omega arith)
+lists-only (accepted h) k n e =
+    by-if (λ r. r ≡ listed n → (i : History) × (accepted h ≡ accepted i) × (1 ≤ k) × (k ≤ length i)) (outside k (length h)) _ _
+    (λ t q. let z : _≡_ {A = ℕ} 0 1 = cc in absurd (omega arith))
+    (λ t q. let m = simp neither at t in (h, refl, omega (arith, tests), omega (arith, tests)))
+    e
+
+-- ---- a line of numbers
+
+line-first : {h : History} {k : ℕ} {ks : List ℕ} → Line h k ks → getD ks 0 0 ≡ k
+line-first (ends c) = refl
+line-first (climbs l r) = refl
+
+line-some : {h : History} {k : ℕ} {ks : List ℕ} → Line h k ks → 1 ≤ length ks
+line-some (ends c) = omega arith
+line-some (climbs l r) = omega arith
+
+line-last : {h : History} {k : ℕ} {ks : List ℕ} → Line h k ks → (n : ℕ) → suc n ≡ length ks → getD ks n 0 ≡ 1
+line-last (ends c) zero e = refl
+line-last (ends c) (suc n) e = absurd (omega arith)
+line-last (climbs l r) zero e = absurd (omega (arith, line-some r))
+line-last (climbs l r) (suc n) e = line-last r n (omega arith)
+
+-- ---- the list buffer
+
+module _ (h : History) (k : ℕ) (s : List ℕ) where
+  -- zero under 19
+  list-zero : T (outside k (length h)) → listAfter (accepted h) k s ≡ replicate (length s) 0
+  unfolding tableAfter written filled
+  list-zero t = rw (if-yes (outside k (length h)) [] (ancestry h k) t, sub-zero)
+
+  list-written : 1 ≤ k → k ≤ length h → listAfter (accepted h) k s ≡ filled (length s) (ancestry h k)
+  unfolding tableAfter written
+  list-written one all = ap (filled (length s)) (if-no (outside k (length h)) _ _ (simp neither (omega (arith, tests))))
+
+module _ {f : Format} {ws vs : List ℕ} {h : History} (p : Passed f ws vs h) (k : ℕ) (one : 1 ≤ k) (all : k ≤ length h) (s : List ℕ)
+    (long : length h ≤ length s) where
+  lists : HoldsAncestry h k (length (ancestry h k)) (listAfter (accepted h) k s)
+  lists =
+      let numbers = ancestry h k in
+      let line = ancestry-line p k one all in
+      let some = line-some line in
+      let few = line-length line in
+      rw (list-written h k s one all) (record {
+        line = rw filled-rows line;
+        begins = filled-at (length s) numbers 0 some ∙ line-first line;
+        some = some;
+        ends = filled-at (length s) numbers (length numbers - 1) (omega arith) ∙ line-last line (length numbers - 1) (omega arith);
+        few = few;
+        fits = rw (length-filled (length s) numbers (omega arith)) (omega arith);
+        rest = rw (length-filled (length s) numbers (omega arith)) (filled-rest (length s) numbers);
+      })
+
+-- ---- the entry, from the words of the board and what the three buffers held
+
+module _ (f : Format) (ws vs s t l : List ℕ) (k : ℕ) where
+  abbrev outcome : Outcome
+  outcome = ancestryAudit f ws vs (length s) (length t) (length l)
+
+  -- a refusal: the audit's, or 19
+  pub unlisted-entry : (n i : ℕ) → (ancestryAnswer outcome k ≡ unlisted n i) ↔ (Refuses f outcome n i ⊎ NoSuch length outcome k n i)
+  unlisted-entry n i = unlisted-is f k n i outcome (numbered f ws vs (length s) (length t) (length l))
+
+  -- an item of an accepted board: its ancestry is listed
+  pub listed-entry : {h : History} → outcome ≡ accepted h → 1 ≤ k → k ≤ length h
+      → (ancestryAnswer outcome k ≡ listed (length (ancestry h k))) × HoldsAncestry h k (length (ancestry h k)) (listAfter outcome k l)
+  unfolding ancestryAnswer
+  listed-entry {h} e one all =
+      let (sound, wide, roomy, long) = accepted-listing f ws vs (length s) (length t) (length l) h .0 e in
+      let few = sound .few in
+      rw e (if-no (outside k (length h)) _ _ (simp neither (omega (arith, tests))), lists (sound .passed) k one all l (omega arith))
+
+  -- the list buffer is unchanged under the word limit and 2
+  pub list-unchanged : {n : ℕ} → outcome ≡ unread n → listAfter outcome k l ≡ l
+  list-unchanged e = table-unchanged outcome (written k) l e
+
+  -- and zero under any other refusal, the audit's and 19
+  pub list-cleared : {n i : ℕ} → outcome ≡ refused n i → listAfter outcome k l ≡ replicate (length l) 0
+  list-cleared e = table-zero outcome (written k) l e
+
+  pub list-cleared-outside : {h : History} → outcome ≡ accepted h → T (outside k (length h)) → listAfter outcome k l ≡ replicate (length l) 0
+  list-cleared-outside {h} e u = rw e (list-zero h k l u)
+
+  -- the numbers written fit the list buffer
+  written-fits : (h : History) → outcome ≡ accepted h → length (written k h) ≤ length l
+  unfolding written
+  written-fits h e =
+      let (sound, wide, roomy, long) = accepted-listing f ws vs (length s) (length t) (length l) h .0 e in
+      let few = sound .few in
+      by-if (λ (ns : List ℕ). length ns ≤ length l) (outside k (length h)) _ _ (λ u. omega arith)
+      λ u.
+      let there : (1 ≤ k) × (k ≤ length h) = let n = simp neither at u in omega (arith, tests) in
+      omega (arith, line-length (ancestry-line (sound .passed) k (there .0) (there .1)))
+
+  -- the three buffers keep their lengths
+  pub listing-keeps : (length (indexAfter outcome s) ≡ length s) × (length (ballotsAfter outcome t) ≡ length t) × (length (listAfter outcome k l) ≡ length l)
+  unfolding tableAfter
+  listing-keeps = (
+    by-audit f ws vs (length s) (length t) (length l) (λ o. length (indexAfter o s) ≡ length s) refl refl (λ m. tables-keep f ws vs s t .0),
+    by-audit f ws vs (length s) (length t) (length l) (λ o. length (ballotsAfter o t) ≡ length t) refl refl (λ m. tables-keep f ws vs s t .1),
+    table-keeps outcome (written k) l written-fits,
+  )

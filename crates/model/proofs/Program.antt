@@ -1,0 +1,219 @@
+-- What the program prints: it needs of both files only their byte counts and as many words as it has room for, and what it prints for empty
+-- files, for a sound board, and for genesis alone. Paper: "The auditing program". Assumes nothing.
+use Prim.Native.Nat.{ℕ, zero, suc, _*_, _/_, _≤_, _<_}
+use native.Mathlib.Omega.{arith}
+use mathlib.Core.Path.{_≡_, refl, sym, ap, _∙_}
+use mathlib.Core.Bool.{not, _||_}
+use mathlib.Core.Option.{Option, none, some}
+use mathlib.Core.List.{List, [], _∷_, append-nil}
+use lib.ListN.{length, getD, take, length-append, length-take}
+use lib.Seq.{take-all}
+use lib.Dec.{T, eqb, eqb→eq, leb, ltb}
+use borrow.Author.Tests.{ltb-false, leb-false, eqb-true, eqb-false, eq-eqb, ne-eqb}
+use Rattle.model.specs.Lists.{if_then_else_, count, keep, latest}
+use Rattle.model.specs.Words.{countOf}
+use Rattle.model.specs.Refusal.{tooLarge, truncated}
+use Rattle.model.specs.Format.{Format, secp256r1, verdictSize}
+use Rattle.model.specs.Item.{itemLength, behind, code}
+use Rattle.model.specs.Types.{Row, rowOf, fits, table}
+use Rattle.model.specs.History.{History, main}
+use Rattle.model.specs.Counted.{counted, totalWeight}
+use Rattle.model.specs.Audit.{Outcome, accepted, faultIn, fault, closing, judged, wordAt, items, audit, itemLimit, indexNeed, ballotNeed}
+use Rattle.model.specs.Report.{ballotRows}
+use Rattle.model.specs.Sound.{Passed, next, Sound}
+use Rattle.model.specs.Program.{fromBytes, bytesPerWord, programLimit, leastItem, programItems, verdictLimit, isWhole, sizeFault, sized, programOutcome, filesOutcome, digits, spaced, refusedLine, acceptedLine, rowLines, textOf, printed}
+use Rattle.model.proofs.Tests.{tests, by-test, is-true, by-if, if-yes, if-no, neither, not-not}
+use Rattle.model.proofs.Parts.{part-take}
+use Rattle.model.proofs.Parsing.{length-words}
+use Rattle.model.proofs.Table.{countType, count-type-law}
+use Rattle.model.proofs.Entries.{orderly, typed-main, first-genesis}
+use Rattle.model.proofs.Acceptance.{accepted↔sound}
+
+-- ---- verdict words past 3,430
+
+module _ (f : Format) (ws vs : List ℕ) (room : ℕ) (least : leastItem ≤ itemLength f 0) (short : length ws ≤ programLimit) where
+  abbrev front : List ℕ
+  front = take verdictLimit vs
+
+  -- at place p the words before it hold the items of h
+  abbrev Behind : History → ℕ → Type 0
+  Behind h p = leastItem * length h ≤ p
+
+  fault-cut : (r : Option Row) (h : History) (p : ℕ) → Behind h p → faultIn f ws front r h p ≡ faultIn f ws vs r h p
+  unfolding faultIn itemLength
+  fault-cut none h p b = refl
+  fault-cut (some r) h p b =
+      by-test (ltb (length ws) (behind f ws p))
+      (λ q. rw q)
+      (λ q. rw (part-take (verdictSize * length h) verdictSize verdictLimit vs (omega (arith, ltb-false (length ws) (behind f ws p) q))))
+
+  -- an item without a fault is whole
+  fault-whole : (r : Option Row) (h : History) (p : ℕ) → faultIn f ws vs r h p ≡ 0 → behind f ws p ≤ length ws
+  unfolding faultIn
+  fault-whole none h p e = absurd (omega arith)
+  fault-whole (some r) h p e =
+      by-if (λ n. n ≡ 0 → behind f ws p ≤ length ws) (not (fits (r .counts) (countOf (getD ws p 0)))) _ _ (λ t q. absurd (omega arith))
+      (λ t. by-if (λ n. n ≡ 0 → behind f ws p ≤ length ws) (ltb (length ws) (behind f ws p)) _ _ (λ u q. absurd (omega arith)) (λ u q. omega (arith, tests)))
+      e
+
+  -- whether verdict words are left over
+  left-cut : (n : ℕ) → n < verdictLimit → eqb n (length front) ≡ eqb n (length vs)
+  left-cut n l =
+      by-test (eqb n (length vs))
+      (λ q. let e = eqb-true n (length vs) q in eq-eqb n (length front) (rw length-take (omega arith)) ∙ sym q)
+      (λ q. let e = eqb-false n (length vs) q in ne-eqb n (length front) (rw length-take (λ d. e (omega arith))) ∙ sym q)
+
+  closing-cut : (h : History) (p : ℕ) → Behind h p → p < length ws → closing f ws front room h p ≡ closing f ws vs room h p
+  unfolding closing
+  closing-cut h p b l = rw (left-cut (verdictSize * length h) (omega arith))
+
+  judged-cut : (n : ℕ) (h : History) (o o′ : Outcome) → (n ≡ 0 → o ≡ o′) → judged f ws front room n h o ≡ judged f ws vs room n h o′
+  unfolding judged
+  judged-cut zero h o o′ e = e refl
+  judged-cut (suc n) h o o′ e = refl
+
+  word-cut : (h : History) (p : ℕ) (o o′ : Outcome) → Behind h p → o ≡ o′ → wordAt f ws front room h p o ≡ wordAt f ws vs room h p o′
+  unfolding wordAt
+  word-cut h p o o′ b e =
+      by-test (leb (length ws) p)
+      (λ q. rw q)
+      (λ q. rw (q, closing-cut h p b (leb-false (length ws) p q), e))
+
+  items-cut : (k : ℕ) (h : History) (p : ℕ) → Behind h p → items f ws front room k h p ≡ items f ws vs room k h p
+  unfolding items itemLength
+  items-cut zero h p b = word-cut h p _ _ b refl
+  items-cut (suc k) h p b =
+      word-cut h p _ _ b
+      (rw (fault-cut (rowOf f (getD ws p 0)) h p b) (judged-cut (fault f ws vs h p) h _ _
+      (λ e. items-cut k _ _ (rw length-append (omega (arith, fault-whole (rowOf f (getD ws p 0)) h p e))))))
+
+  pub audit-cut : (index : ℕ) → audit f ws front index room ≡ audit f ws vs index room
+  unfolding audit
+  audit-cut index = rw (items-cut itemLimit [] 0 (omega arith))
+
+-- ---- the base's format
+
+pub base-least : (sha256 : List ℕ → List ℕ) → leastItem ≤ itemLength (secp256r1 sha256) 0
+unfolding itemLength
+base-least sha256 = omega arith
+
+-- items have at least so many words
+words-least : {f : Format} {ws vs : List ℕ} {h : History} → leastItem ≤ itemLength f 0 → Passed f ws vs h → leastItem * length h ≤ length ws
+unfolding itemLength
+words-least least Passed.none = omega arith
+words-least {f} least (next ws vs h v i p m) = simp length-append (omega (arith, words-least least p, length-words f i (m .shaped)))
+
+-- a board that the program takes has at most 381 items
+pub few-items : {f : Format} {ws vs : List ℕ} {h : History} → leastItem ≤ itemLength f 0 → Sound f ws vs h → length ws ≤ programLimit → length h ≤ programItems
+few-items least s l = omega (arith, words-least least (s .passed), simp length-append at (ap length (s .closed)))
+
+-- ---- files
+
+pub length-from-bytes : (bs : List ℕ) → length (fromBytes bs) ≡ length bs / bytesPerWord
+unfolding fromBytes
+length-from-bytes (a ∷ b ∷ c ∷ d ∷ rest) = omega (arith, length-from-bytes rest)
+length-from-bytes (a ∷ b ∷ c ∷ []) = refl
+length-from-bytes (a ∷ b ∷ []) = refl
+length-from-bytes (a ∷ []) = refl
+length-from-bytes [] = refl
+
+-- sizes without a fault
+size-fine : (board verdicts : ℕ) → sizeFault board verdicts ≡ 0 → board / bytesPerWord ≤ programLimit
+unfolding sizeFault
+size-fine board verdicts e =
+    by-if (λ n. n ≡ 0 → board / bytesPerWord ≤ programLimit) (not (isWhole board) || not (isWhole verdicts)) _ _ (λ t q. absurd (omega arith))
+    (λ t. by-if (λ n. n ≡ 0 → board / bytesPerWord ≤ programLimit) (ltb programLimit (board / bytesPerWord)) _ _ (λ u q. absurd (omega arith)) (λ u q. omega (arith, tests)))
+    e
+
+size-odd : (board verdicts : ℕ) → T (not (isWhole board) || not (isWhole verdicts)) → sizeFault board verdicts ≡ truncated
+unfolding sizeFault
+size-odd board verdicts t = if-yes (not (isWhole board) || not (isWhole verdicts)) _ _ t
+
+size-over : (board verdicts : ℕ) → T (isWhole board) → T (isWhole verdicts) → programLimit < board / bytesPerWord → sizeFault board verdicts ≡ tooLarge
+unfolding sizeFault
+size-over board verdicts b v l =
+    if-no (not (isWhole board) || not (isWhole verdicts)) _ _ (simp (neither, not-not) (b, v))
+    ∙ if-yes (ltb programLimit (board / bytesPerWord)) _ _ (omega (arith, tests))
+
+size-zero : (board verdicts : ℕ) → T (isWhole board) → T (isWhole verdicts) → board / bytesPerWord ≤ programLimit → sizeFault board verdicts ≡ 0
+unfolding sizeFault
+size-zero board verdicts b v l =
+    if-no (not (isWhole board) || not (isWhole verdicts)) _ _ (simp (neither, not-not) (b, v))
+    ∙ if-no (ltb programLimit (board / bytesPerWord)) _ _ (omega (arith, tests))
+
+sized-cut : (n : ℕ) (o o′ : Outcome) → (n ≡ 0 → o ≡ o′) → sized n o ≡ sized n o′
+unfolding sized
+sized-cut zero o o′ e = e refl
+sized-cut (suc n) o o′ e = refl
+
+module _ (f : Format) (board verdicts : List ℕ) where
+  -- of the files' words, the first 16,384 and the first 3,430 are enough
+  pub files-cut : leastItem ≤ itemLength f 0
+      → programOutcome f (length board) (length verdicts) (take programLimit (fromBytes board)) (take verdictLimit (fromBytes verdicts))
+      ≡ filesOutcome f board verdicts
+  unfolding filesOutcome
+  files-cut least =
+      sized-cut (sizeFault (length board) (length verdicts)) _ _ λ e.
+      let short : length (fromBytes board) ≤ programLimit = rw length-from-bytes (size-fine (length board) (length verdicts) e) in
+      rw (take-all programLimit (fromBytes board) short) (audit-cut f (fromBytes board) (fromBytes verdicts) ballotNeed least short indexNeed)
+
+  -- "if either file's byte count isn't a multiple of 4, it is refused as 4 with 0", whatever else is wrong
+  pub odd-size : T (not (isWhole (length board)) || not (isWhole (length verdicts))) → printed f board verdicts ≡ refusedLine truncated 0
+  unfolding filesOutcome sized textOf
+  odd-size t = rw (size-odd (length board) (length verdicts) t)
+
+  -- "a board of at most 16,384 words (more is refused as 1)"
+  pub over-size : T (isWhole (length board)) → T (isWhole (length verdicts)) → programLimit < length (fromBytes board)
+      → printed f board verdicts ≡ refusedLine tooLarge 0
+  unfolding filesOutcome sized textOf
+  over-size b v l = rw (size-over (length board) (length verdicts) b v (rw length-from-bytes at l))
+
+  -- a sound board that fits the program is printed as accepted
+  pub sound-printed : {h : History} → T (isWhole (length board)) → T (isWhole (length verdicts)) → length (fromBytes board) ≤ programLimit
+      → Sound f (fromBytes board) (fromBytes verdicts) h → printed f board verdicts ≡ textOf (accepted h)
+  unfolding filesOutcome sized
+  sound-printed {h} wholeBoard wholeVerdicts short sound =
+      rw (size-zero (length board) (length verdicts) wholeBoard wholeVerdicts (rw length-from-bytes at short))
+      (ap textOf (accepted↔sound f (fromBytes board) (fromBytes verdicts) indexNeed ballotNeed h .1 (sound, omega arith, omega arith)))
+
+-- ---- samples
+
+-- "high byte first": the paper's first head word
+pub high-byte-first : fromBytes (0x10 ∷ 0x01 ∷ 0x00 ∷ 0x11 ∷ []) ≡ 0x10010011 ∷ []
+unfolding fromBytes
+high-byte-first = refl
+
+-- "Empty files print the single line `refused 3 at 0`."
+pub empty-printed : (f : Format) → printed f [] [] ≡ 114 ∷ 101 ∷ 102 ∷ 117 ∷ 115 ∷ 101 ∷ 100 ∷ 32 ∷ 51 ∷ 32 ∷ 97 ∷ 116 ∷ 32 ∷ 48 ∷ 10 ∷ []
+unfolding filesOutcome sizeFault sized audit textOf refusedLine spaced digits fromBytes if_then_else_
+empty-printed f = refl
+
+-- one item is genesis
+genesis-text : {f : Format} {ws vs : List ℕ} (h : History) → Passed f ws vs h → length h ≡ 1 → textOf (accepted h) ≡ acceptedLine 1 1 0 0
+unfolding textOf counted keep latest count totalWeight ballotRows rowLines
+genesis-text [] p one = absurd (omega arith)
+genesis-text (e ∷ e′ ∷ es) p one = absurd (omega arith)
+genesis-text {f} (e ∷ []) p one =
+    let o = orderly p in
+    let code-one : code (e .item) ≡ 1 = eqb→eq (code (e .item)) 1 (o .opens) in
+    let mains = is-true (main e) (typed-main (o .each .0) 1 (omega arith) (o .opens)) in
+    let no-cast = ne-eqb (code (e .item)) 20 (omega arith) in
+    rw (mains, no-cast, append-nil)
+
+genesis-words : {f : Format} {ws vs : List ℕ} {h : History} → Passed f ws vs h → length h ≡ 1 → length ws ≡ itemLength f 17
+unfolding countType table
+genesis-words Passed.none one = absurd (omega arith)
+genesis-words (next ws vs h v i (next ws′ vs′ h′ v′ i′ p n) m) one = absurd (omega (arith, simp length-append at one))
+genesis-words {f} (next ws vs h v i Passed.none m) one =
+    let count = count-type-law 1 17 (countOf (i .head)) tt (m .listed) (eqb→eq (code i) 1 (first-genesis m)) (m .counted) in
+    length-words f i (m .shaped) ∙ ap (itemLength f) count
+
+-- "A sound board of genesis alone prints `accepted 1 1 0 0`."
+pub genesis-printed : (sha256 : List ℕ → List ℕ) (board verdicts : List ℕ) {h : History} → T (isWhole (length board)) → T (isWhole (length verdicts))
+    → Sound (secp256r1 sha256) (fromBytes board) (fromBytes verdicts) h → length h ≡ 1
+    → printed (secp256r1 sha256) board verdicts ≡ 97 ∷ 99 ∷ 99 ∷ 101 ∷ 112 ∷ 116 ∷ 101 ∷ 100 ∷ 32 ∷ 49 ∷ 32 ∷ 49 ∷ 32 ∷ 48 ∷ 32 ∷ 48 ∷ 10 ∷ []
+unfolding acceptedLine spaced digits itemLength if_then_else_
+genesis-printed sha256 board verdicts {h} b v s one =
+    let short : length (fromBytes board) ≤ programLimit =
+    omega (arith, genesis-words (s .passed) one, simp length-append at (ap length (s .closed))) in
+    sound-printed (secp256r1 sha256) board verdicts b v short s ∙ genesis-text h (s .passed) one

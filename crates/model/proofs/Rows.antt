@@ -1,0 +1,122 @@
+-- The rows of both tables: a counted ballot's row is that of the last cast of its voter, each voter with a cast has one, and index row k says
+-- what is known of item k. Paper: "Counted ballots", "Index rows". Assumes nothing.
+use Prim.Native.Nat.{ℕ, zero, suc, _+_, _-_, _*_, _≤_, _<_}
+use native.Mathlib.Nat.{zero-add}
+use native.Mathlib.Omega.{arith}
+use native.Mathlib.Decide.{decLe}
+use mathlib.Core.Path.{_≡_, refl, sym, ap, _∙_}
+use mathlib.Core.Logic.{by-cases}
+use mathlib.Core.Bool.{Bool, true, false}
+use mathlib.Core.List.{List, [], _∷_, map}
+use lib.ListN.{length, getD, drop, length-drop, List·getD-map}
+use lib.Dec.{T, eqb}
+use borrow.Author.Tests.{eq-eqb, eqb-true}
+use Rattle.model.specs.Lists.{part, any, keep, latest, has}
+use Rattle.model.specs.Codes.{castType}
+use Rattle.model.specs.Format.{Format}
+use Rattle.model.specs.Item.{code}
+use Rattle.model.specs.Types.{inSession}
+use Rattle.model.specs.History.{History, Entry, absent, entry, itemNo, typed, main, mainItem, mainItems, mainNumber}
+use Rattle.model.specs.Counted.{Vote, voteOf, votesIn, sameVoter, counted, voters, LastCast}
+use Rattle.model.specs.Audit.{indexRow}
+use Rattle.model.specs.Report.{indexRows, indexRowOf}
+use Rattle.model.specs.Sound.{Passed}
+use Rattle.model.proofs.Tests.{by-test, passes, or-left, or-right}
+use Rattle.model.proofs.Lists.{Every, any-of-map, turns, map-keep}
+use Rattle.model.proofs.Numbers.{keep-entry}
+use Rattle.model.proofs.Votes.{voters-latest}
+use Rattle.model.proofs.Ancestry.{numbered}
+
+-- ---- main item n
+
+main-map : (xs : History) (n : ℕ) → mainItem (map (λ e. e .item) xs) n ≡ itemNo xs n
+unfolding mainItem entry
+main-map xs zero = refl
+main-map xs (suc n) = List·getD-map (λ (e : Entry). e .item) xs n absent
+
+-- a main item stands under its main number
+main-at : (h : History) (k : ℕ) → T (main (entry h k)) → mainItem (mainItems h) (mainNumber h k) ≡ itemNo h k
+main-at h k t = rw (← map-keep main (λ e. e) (λ e. e .item) h, main-map) (ap (λ (e : Entry). e .item) (keep-entry (λ e. e) h k t))
+
+-- ---- the casts behind the first j items
+
+module _ (h : History) where
+  -- there is one more item
+  item-here : (j : ℕ) (e : Entry) (es : List Entry) → drop j h ≡ e ∷ es → (entry h (suc j) ≡ e) × (suc j ≤ length h)
+  unfolding entry
+  item-here j e es q = (turns h j e es q .at absent, omega (arith, simp length-drop at (ap length q)))
+
+  among-more : (p : Vote → Bool) (e : Entry) (es : List Entry) → T (any p (votesIn h es)) → T (any p (votesIn h (e ∷ es)))
+  unfolding any keep
+  among-more p e es t = by-test (typed castType e) (λ s. rw s (or-right (p (voteOf h e)) _ t)) (λ s. rw s t)
+
+  -- a cast behind them is among their votes
+  cast-among : (p : Vote → Bool) (j : ℕ) (es : List Entry) → drop j h ≡ es → (d : ℕ) → j < d → d ≤ length h → code (itemNo h d) ≡ castType
+      → T (p (voteOf h (entry h d))) → T (any p (votesIn h es))
+  unfolding any keep
+  cast-among p j [] q d l m c t = absurd (omega (arith, simp length-drop at (ap length q)))
+  cast-among p j (e ∷ es) q d l m c t =
+      by-cases (decLe d (suc j))
+      (λ n. let here : entry h d ≡ e = let same : d ≡ suc j = omega arith in rw same (item-here j e es q .0) in
+      rw (eq-eqb (code (e .item)) castType (sym (ap (λ (x : Entry). code (x .item)) here) ∙ c)) (or-left (p (voteOf h e)) _ (rw here at t)))
+      (λ n. among-more p e es (cast-among p (suc j) es (turns h j e es q .after) d (omega arith) m c t))
+
+  module _ {f : Format} {ws vs : List ℕ} (b : Passed f ws vs h) where
+    -- a cast with no later one of its voter
+    last-cast : (j : ℕ) (e : Entry) (es : List Entry) → drop j h ≡ e ∷ es → typed castType e ≡ true
+        → any (sameVoter (voteOf h e)) (votesIn h es) ≡ false → LastCast h (voteOf h e) (suc j)
+    unfolding voteOf inSession
+    last-cast j e es q cast none =
+        let (here, in-h) = item-here j e es q in
+        let code-is : code (itemNo h (suc j)) ≡ castType = ap (λ (x : Entry). code (x .item)) here ∙ eqb-true (code (e .item)) castType cast in
+        let a = numbered b (suc j) (omega arith) in-h in
+        record {
+          inside = omega arith;
+          cast = code-is;
+          vote = rw here;
+          last = λ d l m c same. rw none at (cast-among (sameVoter (voteOf h e)) (suc j) es (turns h j e es q .after) d l m c (passes (eq-eqb _ _ (sym same))));
+          ballot = a .ballot code-is .0;
+          ballotNumber = rw (← here) (main-at h (entry h (suc j) .parent) (a .ballot code-is .1));
+          session = a .sessionTyped (rw code-is tt) .1;
+        }
+
+    last-casts : (j : ℕ) (es : List Entry) → drop j h ≡ es → Every (λ x. (c : ℕ) × LastCast h x c) (latest sameVoter (votesIn h es))
+    unfolding latest keep
+    last-casts j [] q = tt
+    last-casts j (e ∷ es) q =
+        let rest = last-casts (suc j) es (turns h j e es q .after) in
+        by-test (typed castType e)
+        (λ s. rw s (by-test (any (sameVoter (voteOf h e)) (votesIn h es)) (λ a. rw a rest) (λ a. rw a ((suc j, last-cast j e es q s a), rest))))
+        (λ s. rw s rest)
+
+    -- each counted ballot is that of the last cast of its voter
+    pub counted-casts : Every (λ x. (c : ℕ) × LastCast h x c) (counted h)
+    unfolding counted
+    counted-casts = last-casts 0 h refl
+
+  -- each voter with a cast has a row
+  pub voter-counted : (c : ℕ) → 1 ≤ c → c ≤ length h → code (itemNo h c) ≡ castType → T (has (voteOf h (entry h c) .voter) (voters (counted h)))
+  unfolding counted
+  voter-counted c one all cast =
+      let v = voteOf h (entry h c) .voter in
+      rw (any-of-map (eqb v) (λ x. x .voter) (latest sameVoter (votesIn h h)), voters-latest v (votesIn h h))
+      (cast-among (λ x. eqb v (x .voter)) 0 h refl c one all cast (passes (eq-eqb v v refl)))
+
+-- ---- index rows
+
+row-from : (h : History) (j : ℕ) (es : List Entry) (i : ℕ) → i < length es
+    → part (indexRow * i) indexRow (indexRows h j es) ≡ indexRowOf h (j + i) (getD es i absent)
+unfolding indexRows indexRowOf part
+row-from h j [] i l = absurd (omega arith)
+row-from h j (e ∷ es) zero l = let same : j + 0 ≡ j = omega arith in rw same
+row-from h j (e ∷ es) (suc i) l =
+    let place : indexRow * suc i ≡ suc (suc (suc (suc (indexRow * i)))) = omega arith in
+    let before : j + suc i ≡ suc j + i = omega arith in
+    rw (place, before) (row-from h (suc j) es i (omega arith))
+
+pub index-row : (h : History) (k : ℕ) → 1 ≤ k → k ≤ length h → part (indexRow * (k - 1)) indexRow (indexRows h 0 h) ≡ indexRowOf h (k - 1) (entry h k)
+unfolding entry
+index-row h zero one all = absurd (omega arith)
+index-row h (suc k) one all =
+    let before : suc k - 1 ≡ k = omega arith in
+    rw before (rw zero-add at (row-from h 0 h k all))

@@ -1,0 +1,125 @@
+-- A whole election under a toy hash, found sound by computing its audit: a spoiled ballot with its hidden track, a counted ballot, and the
+-- extraction. So what is proved of sound boards is proved of boards that have all of that. Assumes nothing.
+use Prim.Native.Nat.{ℕ, _-_}
+use mathlib.Core.Path.{_≡_, refl}
+use mathlib.Core.List.{List, [], _∷_, _++_}
+use lib.ListN.{length, replicate, getD}
+use lib.Count.{onesIn}
+use Rattle.model.specs.Lists.{if_then_else_, _⇒_, part, any, count, keep, latest}
+use Rattle.model.specs.Words.{kindOf, codeOf, countOf, sameWords, pair, closingWord, lowZero, member, everyBelow, allIn}
+use Rattle.model.specs.Format.{Format, secp256r1, keySize}
+use Rattle.model.specs.Item.{Item, itemLength, itemAt, hashed, wordsOf}
+use Rattle.model.specs.Types.{rowOf, rowIn, table, fits}
+use Rattle.model.specs.History.{entry, firstFrom, lastFrom, mainItem, endAfter, endAddress, parentNumber, sessionNumber, entryOf, placeOf, history}
+use Rattle.model.specs.Counted.{voteOf, counted, contents, totalWeight}
+use Rattle.model.specs.Links.{addressOk, previousOk, parentOk, timeOk}
+use Rattle.model.specs.Phase.{rounds, isOpen, extractionOk, openOk, standingOk, latestOk, intentOk, phaseOk}
+use Rattle.model.specs.Only.{onBoardOk, underParentOk, underBallotOk, onlyOk}
+use Rattle.model.specs.Content.{contestsOk, mayVote, cryptogramsOk, contestOk, thresholdOk, authorizerOk, roundOk, sessionOk, commitmentOk, ballotOk, fingerprintOk, trusteesOk, contentOk}
+use Rattle.model.specs.Keys.{opening, keyOf, goodVerdict, verdictOk, keyOk, signatureOk}
+use Rattle.model.specs.Audit.{accepted, firstUnmet, checks, faultIn, closing, judged, wordAt, items, audit, indexNeed, ballotNeed}
+use Rattle.model.specs.Report.{reportOf, ballotRows}
+use Rattle.model.specs.Sound.{Sound}
+use Rattle.model.specs.Ancestry.{upTo, ancestry}
+use Rattle.model.specs.Program.{digits, spaced, acceptedLine, rowLines, textOf}
+use Rattle.model.proofs.Acceptance.{accepted↔sound}
+
+-- the last word, eight times over: of an item's hashed words that is the low word of its time
+abbrev toy : Format
+toy = secp256r1 (λ ws. replicate 8 (getD ws (length ws - 1) 0))
+
+-- an item: its head and content, and eight times each the times of its parent, of the item before it and of itself
+abbrev item : ℕ → List ℕ → ℕ → ℕ → ℕ → Item
+item head content parent previous time = record {
+  head = head;
+  content = content;
+  parent = replicate 8 parent;
+  previous = replicate 8 previous;
+  stamp = 0 ∷ time ∷ [];
+  signature = replicate 16 0;
+  address = replicate 8 time;
+}
+
+-- eight times a number
+abbrev key : ℕ → List ℕ
+key = replicate keySize
+
+-- an item that is signed under a key
+pub record Signed : Type 0 where
+  pub item : Item
+  pub under : ℕ
+
+infix 80 _by_
+abbrev _by_ : Item → ℕ → Signed
+i by k = record { item = i; under = k }
+
+-- the keys of administrator, ballot box, authorizer, voter and verifier are 1 to 5. Item n has the time n.
+unfoldable pub election : List Signed
+election =
+    item 0x10010011 (7 ∷ key 1 ++ key 2) 0 0 1 by 1
+    ∷ item 0x10030001 (0 ∷ []) 1 1 2 by 1
+    ∷ item 0x1004000A (1 ∷ 1 ∷ key 0) 2 2 3 by 1
+    ∷ item 0x10050009 (1 ∷ key 3) 3 3 4 by 1
+    ∷ item 0x10060006 (0 ∷ 1 ∷ 0 ∷ 0 ∷ 0 ∷ 100 ∷ []) 4 4 5 by 1
+    ∷ item 0x10100013 (9 ∷ 5 ∷ key 4 ++ key 0 ++ (1 ∷ [])) 5 5 6 by 3
+    -- a ballot that is checked on a hidden track, and spoiled
+    ∷ item 0x10110009 (replicate 9 0) 6 6 7 by 4
+    ∷ item 0x10120009 (replicate 9 0) 7 7 8 by 2
+    ∷ item 0x10130012 (1 ∷ replicate 16 6 ++ (0x70000 ∷ [])) 8 8 9 by 4
+    ∷ item 0x20300000 [] 9 9 10 by 2
+    ∷ item 0x20310008 (key 5) 10 10 11 by 5
+    ∷ item 0x10150000 [] 9 9 12 by 4
+    ∷ item 0x20320001 (0 ∷ []) 11 11 13 by 4
+    ∷ item 0x20330001 (0 ∷ []) 13 13 14 by 2
+    -- a ballot that is cast
+    ∷ item 0x10110009 (replicate 9 0) 6 12 15 by 4
+    ∷ item 0x10120009 (replicate 9 0) 15 15 16 by 2
+    ∷ item 0x10130012 (1 ∷ replicate 16 6 ++ (0x80000 ∷ [])) 16 16 17 by 4
+    ∷ item 0x10140000 [] 17 17 18 by 4
+    -- extraction: the fingerprint of the one counted ballot is its last word, eight times over
+    ∷ item 0x10200000 [] 5 18 19 by 1
+    ∷ item 0x10210008 (replicate 8 0x80000) 19 19 20 by 2
+    ∷ item 0x10220011 (1 ∷ replicate 16 0) 20 20 21 by 1
+    ∷ []
+
+unfoldable pub wordsIn : List Signed → List ℕ
+wordsIn [] = []
+wordsIn (s ∷ ss) = wordsOf (s .item) ++ wordsIn ss
+
+unfoldable pub verdictsIn : List Signed → List ℕ
+verdictsIn [] = []
+verdictsIn (s ∷ ss) = goodVerdict (key (s .under)) ++ verdictsIn ss
+
+abbrev pub board : List ℕ
+board = wordsIn election ++ (closingWord 21 ∷ [])
+
+abbrev pub verdicts : List ℕ
+verdicts = verdictsIn election
+
+pub is-accepted : audit toy board verdicts indexNeed ballotNeed ≡ accepted (history toy board 21)
+unfolding election wordsIn verdictsIn wordsOf hashed if_then_else_ _⇒_ part any count keep latest onesIn kindOf codeOf countOf sameWords pair lowZero member everyBelow allIn itemLength itemAt rowOf rowIn table fits entry firstFrom lastFrom mainItem endAfter endAddress parentNumber sessionNumber entryOf placeOf history voteOf counted contents addressOk previousOk parentOk timeOk rounds isOpen extractionOk openOk standingOk latestOk intentOk phaseOk onBoardOk underParentOk underBallotOk onlyOk contestsOk mayVote cryptogramsOk contestOk thresholdOk authorizerOk roundOk sessionOk commitmentOk ballotOk fingerprintOk trusteesOk contentOk opening keyOf verdictOk keyOk signatureOk firstUnmet checks faultIn closing judged wordAt items audit
+is-accepted = refl
+
+pub is-sound : Sound toy board verdicts (history toy board 21)
+is-sound = accepted↔sound toy board verdicts indexNeed ballotNeed (history toy board 21) .0 is-accepted .0
+
+-- 21 items, 17 of them main, and one ballot of weight 5: main item 13, of voter 9
+pub is-reported : reportOf toy (accepted (history toy board 21))
+    ≡ record { number = 0; items = 21; mains = 17; end = replicate 8 21; ballots = 1; weight = 5 }
+unfolding election wordsIn wordsOf hashed if_then_else_ part any count keep latest kindOf codeOf countOf sameWords itemLength itemAt entry firstFrom mainItem endAfter endAddress parentNumber sessionNumber entryOf placeOf history voteOf counted totalWeight reportOf
+is-reported = refl
+
+pub ballot-row : ballotRows (counted (history toy board 21)) ≡ 13 ∷ 9 ∷ 5 ∷ []
+unfolding election wordsIn wordsOf hashed if_then_else_ part any count keep latest kindOf codeOf countOf sameWords itemLength itemAt entry firstFrom parentNumber sessionNumber entryOf placeOf history voteOf counted ballotRows
+ballot-row = refl
+
+-- the spoiled ballot's hidden track: items 10, 11, 13 and 14 lead up to it, and the ballot to its session and genesis
+pub track : ancestry (history toy board 21) 14 ≡ 14 ∷ 13 ∷ 11 ∷ 10 ∷ 9 ∷ 8 ∷ 7 ∷ 6 ∷ 5 ∷ 4 ∷ 3 ∷ 2 ∷ 1 ∷ []
+unfolding election wordsIn wordsOf hashed if_then_else_ part codeOf countOf kindOf sameWords itemLength itemAt entry firstFrom parentNumber sessionNumber entryOf placeOf history ancestry upTo
+track = refl
+
+-- `accepted 21 17 1 5` and `13 9 5`
+pub text : textOf (accepted (history toy board 21))
+    ≡ 97 ∷ 99 ∷ 99 ∷ 101 ∷ 112 ∷ 116 ∷ 101 ∷ 100 ∷ 32 ∷ 50 ∷ 49 ∷ 32 ∷ 49 ∷ 55 ∷ 32 ∷ 49 ∷ 32 ∷ 53 ∷ 10 ∷ 49 ∷ 51 ∷ 32 ∷ 57 ∷ 32 ∷ 53 ∷ 10 ∷ []
+unfolding election wordsIn wordsOf hashed if_then_else_ part any count keep latest kindOf codeOf countOf sameWords itemLength itemAt entry firstFrom parentNumber sessionNumber entryOf placeOf history voteOf counted totalWeight ballotRows textOf acceptedLine rowLines spaced digits
+text = refl
