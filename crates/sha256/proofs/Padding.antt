@@ -5,7 +5,7 @@ use mathlib.Core.List.{List, [], _∷_, _++_}
 use native.Mathlib.Nat.{mod-eq-of-lt}
 use native.Mathlib.Omega.{arith}
 use lib.ListN.{length, replicate, length-append, length-replicate}
-use Rattle.sha256.specs.Fips.{zeroBits, lengthField, padding, padded, blocksOf}
+use Rattle.sha256.specs.Fips.{zeroBits, lengthField, hashValue, padding, padded, blocksOf, sha256Words}
 
 -- ---- zeroBits: the smallest solution of l + 1 + k ≡ 448 (mod 512)
 
@@ -40,8 +40,18 @@ length-padding n = simp (length-append, length-replicate) (omega arith)
 
 pub length-padded : (ws : List ℕ) → length (padded ws) ≡ 16 * blocksOf (length ws)
 length-padded ws =
-    length-append ws (padding (length ws)) ∙ ap (λ (k : ℕ). length ws + k) (length-padding (length ws) ∙ ap (λ (k : ℕ). k + 3) (zeroBits-words (length ws)))
+    length-append ws (padding (length ws))
+    ∙ ap (λ (k : ℕ). length ws + k) (length-padding (length ws) ∙ ap (λ (k : ℕ). k + 3) (zeroBits-words (length ws)))
     ∙ whole (length ws)
   where
     whole : (n : ℕ) → n + ((29 - n % 16) % 16 + 3) ≡ 16 * ((n + 18) / 16)
     whole n = omega arith
+
+-- ---- the number of blocks
+
+pub sha256Words-blocks : (ws : List ℕ) → sha256Words ws ≡ hashValue (padded ws) (blocksOf (length ws))
+unfolding sha256Words
+sha256Words-blocks ws = ap (hashValue (padded ws)) (ap (λ (n : ℕ). n / 16) (length-padded ws) ∙ back (blocksOf (length ws)))
+  where
+    back : (k : ℕ) → 16 * k / 16 ≡ k
+    back k = omega arith

@@ -16,7 +16,8 @@ fed-pieces (none {s}) = fed-none s
 fed-pieces (more f p) = fed-append f (fed-pieces p)
 
 -- whatever the pieces, a digest d of the running hash that they end in, as `finish` gives it, is that of the words
-pub digest-pieces : {s r : Hash} {ps : List (List ℕ)} {d : List ℕ} → Holds s [] → FedPieces s r ps → Finishes r d → d ≡ sha256Words (joined ps)
+pub digest-pieces : {s r : Hash} {ps : List (List ℕ)} {d : List ℕ} → Holds s [] → FedPieces s r ps → Finishes r d
+    → d ≡ sha256Words (joined ps)
 digest-pieces {ps = ps} h p f = f (joined ps) (fed-pieces p .holds [] h)
 
 -- so two ways to cut the same words end in the same digest

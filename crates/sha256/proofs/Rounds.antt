@@ -85,10 +85,14 @@ module _ (M w : List ℕ) (t x : ℕ) (started : take t w ≡ schedule M t) (mad
   unfolding schedule
   schedule-stored p = rw (add-one, take-suc-set w t, started, ← word-made)
 
-  pub rounds-suc : (v v₀ r : Working) → t < 64 → v ≡ rounds (schedule M 64) v₀ t → r ≡ round v (getD K t 0) x → r ≡ rounds (schedule M 64) v₀ (t + 1)
+  pub rounds-suc : (v v₀ r : Working) → t < 64 → v ≡ rounds (schedule M 64) v₀ t → r ≡ round v (getD K t 0) x
+      → r ≡ rounds (schedule M 64) v₀ (t + 1)
   unfolding rounds
-  rounds-suc v v₀ r p e d = d ∙ ap₂ (λ (u : Working) (y : ℕ). round u (getD K t 0) y) e (word-made ∙ sym (getD-schedule M 64 t p)) ∙ sym (ap (rounds (schedule M 64) v₀) (add-one t))
+  rounds-suc v v₀ r p e d =
+      d ∙ ap₂ (λ (u : Working) (y : ℕ). round u (getD K t 0) y) e (word-made ∙ sym (getD-schedule M 64 t p))
+      ∙ sym (ap (rounds (schedule M 64) v₀) (add-one t))
 
-pub compress-end : (H M r : List ℕ) (v v₀ : Working) (t : ℕ) → t ≡ 64 → v₀ ≡ initialize H → v ≡ rounds (schedule M 64) v₀ t → r ≡ intermediate H v → r ≡ compress H M
+pub compress-end : (H M r : List ℕ) (v v₀ : Working) (t : ℕ) → t ≡ 64 → v₀ ≡ initialize H → v ≡ rounds (schedule M 64) v₀ t
+    → r ≡ intermediate H v → r ≡ compress H M
 unfolding compress
 compress-end H M r v v₀ t n e d f = cc

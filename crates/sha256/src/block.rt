@@ -79,6 +79,18 @@ const K: [u32; 64] = [
     0xc671_78f2,
 ];
 
+// The initial hash value (5.3.3).
+pub const H0: [u32; 8] = [
+    0x6a09_e667,
+    0xbb67_ae85,
+    0x3c6e_f372,
+    0xa54f_f53a,
+    0x510e_527f,
+    0x9b05_688c,
+    0x1f83_d9ab,
+    0x5be0_cd19,
+];
+
 // The eight working variables.
 pub struct Working {
     pub a: u32,

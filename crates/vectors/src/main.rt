@@ -1,5 +1,7 @@
 // Runs test messages of FIPS 180-4 and of the CAVP through the hash and prints each digest, which the file stdout has from elsewhere.
 // Only messages of whole words: "abc" and other messages of bytes are theorems about the definition, in proofs/Vectors.antt.
+mod messages;
+
 use libc::STDOUT_FILENO;
 use sha256::Hash;
 ghost use mathlib.Core.Path.{_≡_};
@@ -63,65 +65,11 @@ fn show_counting() {
     }
 }
 
-// The messages of 448 and of 896 bits of the standard's examples.
+// The examples of the standard, and short messages of the CAVP.
 fn show_examples() {
     show(b"empty", sha256::digest(&[]));
-    show(
-        b"448-bits",
-        sha256::digest(
-            &[
-                0x6162_6364,
-                0x6263_6465,
-                0x6364_6566,
-                0x6465_6667,
-                0x6566_6768,
-                0x6667_6869,
-                0x6768_696a,
-                0x6869_6a6b,
-                0x696a_6b6c,
-                0x6a6b_6c6d,
-                0x6b6c_6d6e,
-                0x6c6d_6e6f,
-                0x6d6e_6f70,
-                0x6e6f_7071,
-            ],
-        ),
-    );
-    show(
-        b"896-bits",
-        sha256::digest(
-            &[
-                0x6162_6364,
-                0x6566_6768,
-                0x6263_6465,
-                0x6667_6869,
-                0x6364_6566,
-                0x6768_696a,
-                0x6465_6667,
-                0x6869_6a6b,
-                0x6566_6768,
-                0x696a_6b6c,
-                0x6667_6869,
-                0x6a6b_6c6d,
-                0x6768_696a,
-                0x6b6c_6d6e,
-                0x6869_6a6b,
-                0x6c6d_6e6f,
-                0x696a_6b6c,
-                0x6d6e_6f70,
-                0x6a6b_6c6d,
-                0x6e6f_7071,
-                0x6b6c_6d6e,
-                0x6f70_7172,
-                0x6c6d_6e6f,
-                0x7071_7273,
-                0x6d6e_6f70,
-                0x7172_7374,
-                0x6e6f_7071,
-                0x7273_7475,
-            ],
-        ),
-    );
+    show(b"448-bits", sha256::digest(&messages::BITS_448));
+    show(b"896-bits", sha256::digest(&messages::BITS_896));
     show(b"cavp-32-bits", sha256::digest(&[0x74ba_2521]));
     show(b"cavp-64-bits", sha256::digest(&[0x5738_c929, 0xc4f4_ccb6]));
 }

@@ -1,3 +1,4 @@
+-- `tirfolma_sha256_words` meets its contract: by the length of the message.
 use mathlib.Core.Path.{_≡_, refl, sym}
 use mathlib.Core.Bool.{true, false}
 use Prim.Native.Nat.{_^_}
@@ -22,4 +23,5 @@ returns-2 c =
     record { told = sym long; written = rw long refl }
 
 pub tirfolma-sha256-words-spec : {M : Type 1} → statement M
-tirfolma-sha256-words-spec = tie.close (tie.spec (λ c κs. search needs) returns returns-2)
+tirfolma-sha256-words-spec =
+    tie.close (tie.spec (λ c κs. search needs) returns returns-2)

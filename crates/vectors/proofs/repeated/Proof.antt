@@ -1,3 +1,4 @@
+-- `repeated` meets its contract: after i turns i words are fed.
 use mathlib.Core.Path.{_≡_, subst}
 use Prim.Native.Nat.{ℕ, _-_, _≤_}
 use mathlib.Core.List.{List}
@@ -36,13 +37,5 @@ pub repeated-spec : {M : Type 1} → statement M
 repeated-spec =
     tie.close
     (tie.spec
-    Inv-loop
-    μ-loop
-    (λ c κs. search needs)
-    loop-holds
-    (λ c κs. omega arith)
-    (λ c. omega arith)
-    (λ c. omega arith)
-    loop-again
-    (λ c κs. omega arith)
-    returns)
+    Inv-loop μ-loop (λ c κs. search needs) loop-holds (λ c κs. omega arith) (λ c. omega arith) (λ c. omega arith)
+    loop-again (λ c κs. omega arith) returns)

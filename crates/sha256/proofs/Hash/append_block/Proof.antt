@@ -1,3 +1,4 @@
+-- `Hash::append_block` meets its contract.
 use mathlib.Core.Path.{sym, ap}
 use Prim.Native.Nat.{ℕ, _+_}
 use borrow.Author.Needs.{needs}
@@ -14,4 +15,5 @@ returns c =
     }
 
 pub append-block-spec : {M : Type 1} → statement M
-append-block-spec = tie.close (tie.spec (λ c κs. search needs) (λ c. search needs) returns)
+append-block-spec =
+    tie.close (tie.spec (λ c κs. search needs) (λ c. search needs) returns)

@@ -1,3 +1,4 @@
+-- `block::compress` meets its contract: each turn makes one word of the schedule and does the round that uses it.
 use mathlib.Core.Path.{_≡_, refl}
 use Prim.Native.Nat.{_≤_, _-_}
 use native.Mathlib.Omega.{arith}
@@ -35,24 +36,13 @@ returns : tie.Need-returns Inv-loop μ-loop
 returns c =
     let l = c .before .before .loop in
     let a = c .before .before .before .before .before .args in
-    compress-end (a .h) (a .m .now) _ (l .v) _ (l .t) (omega arith) (c .before .before .before .initialize .ensures) (l .inv .3) (c .intermediate .ensures)
+    let first = c .before .before .before .initialize .ensures in
+    compress-end (a .h) (a .m .now) _ (l .v) _ (l .t) (omega arith) first (l .inv .3) (c .intermediate .ensures)
 
 pub compress-spec : {M : Type 1} → statement M
 compress-spec =
     tie.close
     (tie.spec
-    Inv-loop
-    μ-loop
-    (λ c κs. search needs)
-    loop-holds
-    (λ c κs. search needs)
-    (λ c. search needs)
-    (λ c. search needs)
-    (λ c. search needs)
-    (λ c. search needs)
-    (λ c κs. search needs)
-    (λ c. search needs)
-    (λ c. search needs)
-    loop-again
-    (λ c κs. search needs)
-    returns)
+    Inv-loop μ-loop (λ c κs. search needs) loop-holds (λ c κs. search needs) (λ c. search needs) (λ c. search needs)
+    (λ c. search needs) (λ c. search needs) (λ c κs. search needs) (λ c. search needs) (λ c. search needs) loop-again
+    (λ c κs. search needs) returns)

@@ -1,3 +1,4 @@
+-- `block::intermediate` meets its contract.
 use borrow.Author.Needs.{needs}
 use Rattle.sha256.specs.Fips.{intermediate}
 use Rattle.sha256.proofs.block.intermediate.Statement.{statement}
@@ -10,4 +11,8 @@ returns c = cc
 pub intermediate-spec : {M : Type 1} → statement M
 intermediate-spec =
     tie.close
-    (tie.spec (λ c. search needs) (λ c κs. search needs) (λ c. search needs) (λ c κs. search needs) (λ c. search needs) (λ c κs. search needs) (λ c. search needs) (λ c κs. search needs) (λ c. search needs) (λ c κs. search needs) (λ c. search needs) (λ c κs. search needs) (λ c. search needs) (λ c κs. search needs) (λ c. search needs) (λ c κs. search needs) returns)
+    (tie.spec
+    (λ c. search needs) (λ c κs. search needs) (λ c. search needs) (λ c κs. search needs) (λ c. search needs)
+    (λ c κs. search needs) (λ c. search needs) (λ c κs. search needs) (λ c. search needs) (λ c κs. search needs)
+    (λ c. search needs) (λ c κs. search needs) (λ c. search needs) (λ c κs. search needs) (λ c. search needs)
+    (λ c κs. search needs) returns)

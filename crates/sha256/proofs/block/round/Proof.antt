@@ -1,3 +1,4 @@
+-- `block::round` meets its contract.
 use borrow.Author.Needs.{needs}
 use Rattle.sha256.specs.Fips.{round}
 use Rattle.sha256.proofs.block.round.Statement.{statement}
@@ -8,4 +9,7 @@ unfolding round
 returns c = cc
 
 pub round-spec : {M : Type 1} → statement M
-round-spec = tie.close (tie.spec (λ c κs. search needs) (λ c κs. search needs) (λ c κs. search needs) (λ c κs. search needs) returns)
+round-spec =
+    tie.close
+    (tie.spec
+    (λ c κs. search needs) (λ c κs. search needs) (λ c κs. search needs) (λ c κs. search needs) returns)

@@ -1,3 +1,4 @@
+-- `functions::big_sigma1` meets its contract.
 use borrow.Author.Needs.{needs}
 use Rattle.sha256.specs.Fips.{bigSigma1}
 use Rattle.sha256.proofs.functions.big_sigma1.Statement.{statement}

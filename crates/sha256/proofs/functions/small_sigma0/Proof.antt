@@ -1,3 +1,4 @@
+-- `functions::small_sigma0` meets its contract.
 use borrow.Author.Needs.{needs}
 use Rattle.sha256.specs.Fips.{smallSigma0}
 use Rattle.sha256.proofs.functions.small_sigma0.Statement.{statement}

@@ -1,3 +1,4 @@
+-- `functions::small_sigma1` meets its contract.
 use borrow.Author.Needs.{needs}
 use Rattle.sha256.specs.Fips.{smallSigma1}
 use Rattle.sha256.proofs.functions.small_sigma1.Statement.{statement}
