@@ -1,10 +1,10 @@
 -- Laws of the padding: it is what FIPS 180-4, 5.1.1 says, and how many blocks it makes.
-use mathlib.Core.Path.{_≡_, refl, sym, ap, ap₂, _∙_}
-use Prim.Native.Nat.{ℕ, suc, _+_, _-_, _*_, _/_, _%_, _^_, _≤_, _<_}
-use mathlib.Core.List.{List, [], _∷_, _++_}
+use mathlib.Core.Path.{_≡_, ap, _∙_}
+use Prim.Native.Nat.{ℕ, _+_, _-_, _*_, _/_, _%_, _^_, _≤_, _<_}
+use mathlib.Core.List.{List, [], _∷_}
 use native.Mathlib.Nat.{mod-eq-of-lt}
 use native.Mathlib.Omega.{arith}
-use lib.ListN.{length, replicate, length-append, length-replicate}
+use lib.ListN.{length, length-append, length-replicate}
 use Rattle.sha256.specs.Fips.{zeroBits, lengthField, hashValue, padding, padded, blocksOf, sha256Words}
 
 -- ---- zeroBits: the smallest solution of l + 1 + k ≡ 448 (mod 512)

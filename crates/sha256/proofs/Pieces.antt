@@ -1,7 +1,7 @@
 -- The same words fed in any pieces, empty ones too, give the same digest.
-use mathlib.Core.Path.{_≡_, sym, ap, _∙_, subst}
+use mathlib.Core.Path.{_≡_, sym, ap, _∙_}
 use Prim.Native.Nat.{ℕ}
-use mathlib.Core.List.{List, [], _∷_, _++_}
+use mathlib.Core.List.{List, []}
 use Rattle.sha256.specs.Fips.{sha256Words}
 use Rattle.sha256.specs.State.{Holds, Fed, Finishes}
 use Rattle.sha256.specs.Pieces.{joined, FedPieces}

@@ -1,7 +1,6 @@
 -- `block::message_word` meets its contract: the two cases of the standard's equation.
 use borrow.Author.Needs.{needs}
-use mathlib.Core.Path.{_∙_, sym}
-use native.Mathlib.Omega.{arith}
+use mathlib.Core.Path.{sym}
 use Rattle.sha256.proofs.Rounds.{messageWord-first, messageWord-next}
 use Rattle.sha256.proofs.block.message_word.Statement.{statement}
 use Rattle.sha256.proofs.block.message_word.Tie as tie
