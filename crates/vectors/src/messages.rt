@@ -1,0 +1,51 @@
+// The messages of the standard's examples, as words.
+
+// "abcdbcdecdefdefg..nopq"
+pub const BITS_448: [u32; 14] = [
+    0x6162_6364,
+    0x6263_6465,
+    0x6364_6566,
+    0x6465_6667,
+    0x6566_6768,
+    0x6667_6869,
+    0x6768_696a,
+    0x6869_6a6b,
+    0x696a_6b6c,
+    0x6a6b_6c6d,
+    0x6b6c_6d6e,
+    0x6c6d_6e6f,
+    0x6d6e_6f70,
+    0x6e6f_7071,
+];
+
+// "abcdefghbcdefghi..nopqrstu"
+pub const BITS_896: [u32; 28] = [
+    0x6162_6364,
+    0x6566_6768,
+    0x6263_6465,
+    0x6667_6869,
+    0x6364_6566,
+    0x6768_696a,
+    0x6465_6667,
+    0x6869_6a6b,
+    0x6566_6768,
+    0x696a_6b6c,
+    0x6667_6869,
+    0x6a6b_6c6d,
+    0x6768_696a,
+    0x6b6c_6d6e,
+    0x6869_6a6b,
+    0x6c6d_6e6f,
+    0x696a_6b6c,
+    0x6d6e_6f70,
+    0x6a6b_6c6d,
+    0x6e6f_7071,
+    0x6b6c_6d6e,
+    0x6f70_7172,
+    0x6c6d_6e6f,
+    0x7071_7273,
+    0x6d6e_6f70,
+    0x7172_7374,
+    0x6e6f_7071,
+    0x7273_7475,
+];
