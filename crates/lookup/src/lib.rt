@@ -37,13 +37,13 @@ pub fn first_addressed(board: &[u32], index: &[u32], count: usize, main: bool, a
     requires { ⌜ (Kept (now board) (now index) count) × (at + 8 ≤ length (now board)) ⌝ }
     ensures { λ r. ⌜ r ≡ first (addressed main (part at 8 (now (board .entry)))) (before (now (board .entry)) count) ⌝ }
 {
-    let mut k = 1;
-    while k <= count {
-        let e = index::entry(board, index, count, k);
+    let mut number = 1;
+    while number <= count {
+        let e = index::entry(board, index, count, number);
         if is_addressed(board, e, main, at) {
-            return k;
+            return number;
         }
-        k += 1;
+        number += 1;
     }
     0
 }
@@ -143,13 +143,13 @@ pub fn has_child(
     requires { ⌜ Kept (now board) (now index) count ⌝ }
     ensures { λ r. ⌜ r ≡ any (childOf parent (between low high)) (before (now (board .entry)) count) ⌝ }
 {
-    let mut k = 1;
-    while k <= count {
-        let e = index::entry(board, index, count, k);
+    let mut child = 1;
+    while child <= count {
+        let e = index::entry(board, index, count, child);
         if is_child(e, parent, low, high) {
             return true;
         }
-        k += 1;
+        child += 1;
     }
     false
 }

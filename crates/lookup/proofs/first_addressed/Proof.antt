@@ -1,4 +1,4 @@
--- `first_addressed` meets its contract. The loop's invariant: the first such item is the first from item k on. Assumes nothing.
+-- `first_addressed` meets its contract. The loop's invariant: the first such item is the first from the present item on. Assumes nothing.
 use borrow.Author.Needs.{needs}
 use Prim.Native.Nat.{_+_, _-_, _≤_}
 use mathlib.Core.Path.{_≡_, refl, sym, _∙_}
@@ -12,12 +12,12 @@ use Rattle.lookup.proofs.first_addressed.Statement.{statement}
 use Rattle.lookup.proofs.first_addressed.Tie as tie
 
 abbrev Inv-loop : tie.InvT-loop
-Inv-loop board index count main at k₀ k =
-    (1 ≤ k) × (k ≤ count + 1)
-    × (first (addressed main (part at 8 board)) (before board count) ≡ firstFrom k (addressed main (part at 8 board)) (from board count k))
+Inv-loop board index count main at number₀ number =
+    (1 ≤ number) × (number ≤ count + 1)
+    × (first (addressed main (part at 8 board)) (before board count) ≡ firstFrom number (addressed main (part at 8 board)) (from board count number))
 
 abbrev μ-loop : tie.MeasureT-loop
-μ-loop board index count main at k₀ k = count + 1 - k
+μ-loop board index count main at number₀ number = count + 1 - number
 
 loop-holds : tie.Need-loop-holds Inv-loop μ-loop
 loop-holds c = (search needs, search needs, refl)
@@ -35,10 +35,10 @@ returns c =
     let p = addressed (a .main) (part (a .at) 8 (a .board .now)) in
     let v = l .loop .inv in
     let e = c .before .before .entry in
-    sym (v .2 ∙ first-stops _ _ p (l .loop .k) (v .0) (search needs) _ (told-from (e .ensures) p (c .before .is-addressed .ensures)) (c .if1 .taken))
+    sym (v .2 ∙ first-stops _ _ p (l .loop .number) (v .0) (search needs) _ (told-from (e .ensures) p (c .before .is-addressed .ensures)) (c .if1 .taken))
 
-add-k : tie.Need-add-k Inv-loop μ-loop
-add-k c = search needs
+add-number : tie.Need-add-number Inv-loop μ-loop
+add-number c = search needs
 
 loop-less : tie.Need-loop-less Inv-loop μ-loop
 loop-less c = search needs
@@ -50,10 +50,10 @@ loop-again c =
     let p = addressed (a .main) (part (a .at) 8 (a .board .now)) in
     let v = l .loop .inv in
     let e = c .before .before .entry in
-    (search needs, search needs, v .2 ∙ first-goes _ _ p (l .loop .k) (v .0) (search needs) _ (told-from (e .ensures) p (c .before .is-addressed .ensures)) (c .if1 .left))
+    (search needs, search needs, v .2 ∙ first-goes _ _ p (l .loop .number) (v .0) (search needs) _ (told-from (e .ensures) p (c .before .is-addressed .ensures)) (c .if1 .left))
 
 returns-2 : tie.Need-returns-2 Inv-loop μ-loop
-returns-2 c = let l = c .before in sym (l .loop .inv .2 ∙ first-ends _ _ _ (l .loop .k) (search needs))
+returns-2 c = let l = c .before in sym (l .loop .inv .2 ∙ first-ends _ _ _ (l .loop .number) (search needs))
 
 pub first-addressed-spec : {M : Type 1} → statement M
 first-addressed-spec =
@@ -65,7 +65,7 @@ first-addressed-spec =
     entry-requires
     is-addressed-requires
     returns
-    add-k
+    add-number
     loop-less
     loop-again
     returns-2)

@@ -1,4 +1,4 @@
--- `has_child` meets its contract. The loop's invariant: there is a child where there is one from item k on. Assumes nothing.
+-- `has_child` meets its contract. The loop's invariant: there is a child where there is one from the present item on. Assumes nothing.
 use borrow.Author.Needs.{needs}
 use Prim.Native.Nat.{_+_, _-_, _≤_}
 use mathlib.Core.Path.{_≡_, refl, sym, _∙_}
@@ -12,12 +12,12 @@ use Rattle.lookup.proofs.has_child.Statement.{statement}
 use Rattle.lookup.proofs.has_child.Tie as tie
 
 abbrev Inv-loop : tie.InvT-loop
-Inv-loop board index count parent low high k₀ k =
-    (1 ≤ k) × (k ≤ count + 1)
-    × (any (childOf parent (between low high)) (before board count) ≡ any (childOf parent (between low high)) (from board count k))
+Inv-loop board index count parent low high child₀ child =
+    (1 ≤ child) × (child ≤ count + 1)
+    × (any (childOf parent (between low high)) (before board count) ≡ any (childOf parent (between low high)) (from board count child))
 
 abbrev μ-loop : tie.MeasureT-loop
-μ-loop board index count parent low high k₀ k = count + 1 - k
+μ-loop board index count parent low high child₀ child = count + 1 - child
 
 loop-holds : tie.Need-loop-holds Inv-loop μ-loop
 loop-holds c = (search needs, search needs, refl)
@@ -33,10 +33,10 @@ returns c =
     let l = c .before .before .before .before in
     let v = l .loop .inv in
     let e = c .before .before .entry in
-    sym (v .2 ∙ any-stops _ _ _ (l .loop .k) (v .0) (search needs) _ (told-child (e .ensures) _ _ _ (c .before .is-child .ensures)) (c .if1 .taken))
+    sym (v .2 ∙ any-stops _ _ _ (l .loop .child) (v .0) (search needs) _ (told-child (e .ensures) _ _ _ (c .before .is-child .ensures)) (c .if1 .taken))
 
-add-k : tie.Need-add-k Inv-loop μ-loop
-add-k c = search needs
+add-child : tie.Need-add-child Inv-loop μ-loop
+add-child c = search needs
 
 loop-less : tie.Need-loop-less Inv-loop μ-loop
 loop-less c = search needs
@@ -46,10 +46,10 @@ loop-again c =
     let l = c .before .before .before .before in
     let v = l .loop .inv in
     let e = c .before .before .entry in
-    (search needs, search needs, v .2 ∙ any-goes _ _ _ (l .loop .k) (v .0) (search needs) _ (told-child (e .ensures) _ _ _ (c .before .is-child .ensures)) (c .if1 .left))
+    (search needs, search needs, v .2 ∙ any-goes _ _ _ (l .loop .child) (v .0) (search needs) _ (told-child (e .ensures) _ _ _ (c .before .is-child .ensures)) (c .if1 .left))
 
 returns-2 : tie.Need-returns-2 Inv-loop μ-loop
-returns-2 c = let l = c .before in sym (l .loop .inv .2 ∙ any-ends _ _ _ (l .loop .k) (search needs))
+returns-2 c = let l = c .before in sym (l .loop .inv .2 ∙ any-ends _ _ _ (l .loop .child) (search needs))
 
 pub has-child-spec : {M : Type 1} → statement M
 has-child-spec =
@@ -61,7 +61,7 @@ has-child-spec =
     entry-requires
     is-child-requires
     returns
-    add-k
+    add-child
     loop-less
     loop-again
     returns-2)
