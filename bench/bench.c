@@ -92,10 +92,11 @@ static struct contender all[] = {
 };
 enum { CONTENDERS = sizeof all / sizeof all[0] };
 
+/* The processor's time and not the clock's, so that other programs on the machine count little. */
 static double now(void)
 {
     struct timespec t;
-    clock_gettime(CLOCK_MONOTONIC, &t);
+    clock_gettime(CLOCK_PROCESS_CPUTIME_ID, &t);
     return (double)t.tv_sec + 1e-9 * (double)t.tv_nsec;
 }
 
