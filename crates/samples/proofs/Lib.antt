@@ -1,0 +1,2 @@
+-- The paper's samples.
+pub mod Samples

@@ -1,0 +1,1 @@
+// The samples of the paper, as one table and one statement, in proofs/. No code.
