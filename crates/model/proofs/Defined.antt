@@ -16,27 +16,15 @@ use Rattle.model.specs.Format.{Format}
 use Rattle.model.specs.Item.{Item, code, time, word}
 use Rattle.model.specs.History.{History, Entry, entryOf, itemNo, typed, sessionNumber, sessionContests}
 use Rattle.model.specs.Content.{defines, contestsOk, mayVote, contestOk}
+use Rattle.model.specs.Standing.{enabledSet, withContest, definedFrom, definedSet}
 use Rattle.model.specs.Sound.{Passed}
 use Rattle.model.proofs.Tests.{by-test, passes, facts}
 use Rattle.model.proofs.Lists.{Every}
 use Rattle.model.proofs.Rules.{content-rules}
 use Rattle.model.proofs.Sets.{member-zero, member-one, member-or, member-and, allIn-ext, allIn-member, size-zero}
-use Rattle.model.proofs.Rounds.{RoundSmall, WordsSmall, enabledSet, member-enabled, enabledSet-small, passed-each}
+use Rattle.model.proofs.Rounds.{RoundSmall, WordsSmall, member-enabled, enabledSet-small, passed-each}
 
 -- ---- the set
-
--- the set s with the contest that an entry defines
-unfoldable pub withContest : ℕ → Entry → ℕ
-unfolding if_then_else_
-withContest s e = if typed contestType e then bitOr s (2 ^ word 0 (e .item)) else s
-
--- the set s with the contests that some entries define
-unfoldable pub definedFrom : ℕ → List Entry → ℕ
-definedFrom s [] = s
-definedFrom s (e ∷ es) = definedFrom (withContest s e) es
-
-unfoldable pub definedSet : History → ℕ
-definedSet h = definedFrom 0 h
 
 pub definedSet-none : definedSet [] ≡ 0
 unfolding definedSet definedFrom

@@ -20,6 +20,7 @@ use Rattle.model.specs.Item.{Item, itemAt, contentAt, code, word}
 use Rattle.model.specs.History.{History, Entry, absent, entry, entryOf, itemNo, itemsWith, last, lastFrom, typed, placeOf, history}
 use Rattle.model.specs.Phase.{roundNumber, roundContests, sameRound, rounds, isOpen}
 use Rattle.model.specs.Content.{enables, roundOk}
+use Rattle.model.specs.Standing.{anyBelow, unionBelow, numbered, roundAt, slots, openContests, enabledSet}
 use Rattle.model.specs.Sound.{Meets, Passed, none, next}
 use Rattle.model.proofs.Tests.{by-test, passes, by-if, facts}
 use Rattle.model.proofs.Lists.{Every, every-snoc}
@@ -28,14 +29,6 @@ use Rattle.model.proofs.Rules.{content-rules}
 use Rattle.model.proofs.Sets.{member-zero, member-or}
 
 -- ---- whether any number below n passes a test, and the union of the sets of the numbers below n: a loop from 0 up
-
-unfoldable pub anyBelow : ℕ → (ℕ → Bool) → Bool
-anyBelow zero p = false
-anyBelow (suc n) p = p n || anyBelow n p
-
-unfoldable pub unionBelow : ℕ → (ℕ → ℕ) → ℕ
-unionBelow zero f = 0
-unionBelow (suc n) f = bitOr (unionBelow n f) (f n)
 
 pub anyBelow-ext : (n : ℕ) (p q : ℕ → Bool) → ((j : ℕ) → j < n → p j ≡ q j) → anyBelow n p ≡ anyBelow n q
 unfolding anyBelow
@@ -165,18 +158,6 @@ module _ (t : Entry → Bool) where
 
 -- ---- the rounds by number
 
--- a round with the number j
-abbrev pub numbered : ℕ → Entry → Bool
-numbered j e = typed roundType e && eqb (roundNumber (e .item)) j
-
--- the item number of the round in force with the number j, 0 if there is none
-abbrev pub roundAt : History → ℕ → ℕ
-roundAt h j = last (numbered j) h
-
--- "number 0..15"
-abbrev pub slots : ℕ
-slots = 16
-
 abbrev pub RoundSmall : Entry → Type 0
 RoundSmall e = T (typed roundType e) → roundNumber (e .item) < slots
 
@@ -276,16 +257,6 @@ history-words f ws small (suc n) =
     (λ k. part-words ws small (contentAt p) (countOf (getD ws p 0)) k)
 
 -- ---- the contests that the open rounds enable
-
--- those of the round with the number j, where there is one and it is open at the time t
-unfoldable pub openContests : ℕ → History → ℕ → ℕ
-unfolding if_then_else_
-openContests t h j =
-    let r = itemNo h (roundAt h j) in
-    if not (eqb (roundAt h j) 0) && isOpen t r then roundContests r else 0
-
-unfoldable pub enabledSet : ℕ → History → ℕ
-enabledSet t h = unionBelow slots (openContests t h)
 
 member-if : (a b : Bool) (w j : ℕ) → member (if a && b then w else 0) j ≡ (a && (b && member w j))
 unfolding if_then_else_

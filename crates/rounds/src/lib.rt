@@ -4,7 +4,7 @@ ghost use mathlib.Core.Path.{_≡_};
 ghost use Rattle.model.specs.Item.{itemAt};
 ghost use Rattle.model.specs.Lists.{any};
 ghost use Rattle.model.specs.Phase.{rounds, isOpen};
-ghost use Rattle.model.proofs.Rounds.{enabledSet};
+ghost use Rattle.model.specs.Standing.{enabledSet};
 ghost use Rattle.format.specs.Base.{base};
 ghost use Rattle.index.specs.Kept.{before, Kept};
 ghost use Rattle.state.specs.Stands.{Stands};

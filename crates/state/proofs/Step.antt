@@ -22,7 +22,8 @@ use Rattle.model.proofs.Sets.{one-shl}
 use Rattle.model.proofs.State.{count-snoc, first-snoc, last-snoc}
 use Rattle.model.proofs.Unchecked.{length-history}
 use Rattle.model.proofs.Rounds.{roundAt-snoc}
-use Rattle.model.proofs.Defined.{definedSet, definedFrom, definedSet-snoc}
+use Rattle.model.specs.Standing.{definedSet, definedFrom}
+use Rattle.model.proofs.Defined.{definedSet-snoc}
 use Rattle.format.specs.Base.{base}
 use Rattle.index.specs.Kept.{before, itemAfter}
 use Rattle.index.specs.Known.{Passing}

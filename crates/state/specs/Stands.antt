@@ -14,8 +14,7 @@ use Rattle.model.specs.History as history
 use Rattle.model.specs.History.{first, main, typed, placeOf, entryOf}
 use Rattle.model.specs.Counted.{counted}
 use Rattle.model.specs.Audit.{itemLimit}
-use Rattle.model.proofs.Rounds.{roundAt}
-use Rattle.model.proofs.Defined.{definedSet}
+use Rattle.model.specs.Standing.{roundAt, definedSet}
 use Rattle.format.specs.Base.{base}
 use Rattle.format.specs.Table.{rowOf}
 use Rattle.format.specs.declared.table.Row.{Row}

@@ -1,0 +1,64 @@
+-- What a running audit keeps of the items so far, in place of searching for it: the round in force under each number, the contests that the
+-- open rounds enable, and the contests that are defined, as sets. The code's state is said to be these; the laws that the rules can be tested
+-- by them are in proofs/. Paper: "Phases", "Content". Assumes nothing.
+use Prim.Native.Nat.{ℕ, zero, suc, _^_}
+use mathlib.Core.Bool.{Bool, false, not, _&&_, _||_}
+use mathlib.Core.List.{List, [], _∷_}
+use lib.Bits.{bitOr}
+use lib.Dec.{eqb}
+use Rattle.model.specs.Lists.{if_then_else_}
+use Rattle.model.specs.Codes.{contestType, roundType}
+use Rattle.model.specs.Item.{word}
+use Rattle.model.specs.History.{History, Entry, itemNo, last, typed}
+use Rattle.model.specs.Phase.{roundNumber, roundContests, isOpen}
+
+-- ---- numbers below n: whether any passes a test, and the union of their sets
+
+unfoldable pub anyBelow : ℕ → (ℕ → Bool) → Bool
+anyBelow zero p = false
+anyBelow (suc n) p = p n || anyBelow n p
+
+unfoldable pub unionBelow : ℕ → (ℕ → ℕ) → ℕ
+unionBelow zero f = 0
+unionBelow (suc n) f = bitOr (unionBelow n f) (f n)
+
+-- ---- rounds
+
+-- a round with the number j
+abbrev pub numbered : ℕ → Entry → Bool
+numbered j e = typed roundType e && eqb (roundNumber (e .item)) j
+
+-- the item number of the round in force with the number j, 0 if there is none
+abbrev pub roundAt : History → ℕ → ℕ
+roundAt h j = last (numbered j) h
+
+-- "number 0..15"
+abbrev pub slots : ℕ
+slots = 16
+
+-- the contests of the round with the number j, where there is one and it is open at the time t
+unfoldable pub openContests : ℕ → History → ℕ → ℕ
+unfolding if_then_else_
+openContests t h j =
+    let r = itemNo h (roundAt h j) in
+    if not (eqb (roundAt h j) 0) && isOpen t r then roundContests r else 0
+
+-- the contests that the rounds open at the time t enable
+unfoldable pub enabledSet : ℕ → History → ℕ
+enabledSet t h = unionBelow slots (openContests t h)
+
+-- ---- contests
+
+-- the set s with the contest that an entry defines
+unfoldable pub withContest : ℕ → Entry → ℕ
+unfolding if_then_else_
+withContest s e = if typed contestType e then bitOr s (2 ^ word 0 (e .item)) else s
+
+-- the set s with the contests that some entries define
+unfoldable pub definedFrom : ℕ → List Entry → ℕ
+definedFrom s [] = s
+definedFrom s (e ∷ es) = definedFrom (withContest s e) es
+
+-- the contests that a type 3 defined
+unfoldable pub definedSet : History → ℕ
+definedSet h = definedFrom 0 h
