@@ -1,23 +1,21 @@
 -- The code's tests of an item, by its view, are the model's tests of the entry that it stands for. Assumes nothing.
-use Prim.Native.Nat.{ℕ, _+_, _-_, _≤_}
+use Prim.Native.Nat.{ℕ, _-_, _≤_}
 use native.Mathlib.Nat.{add-zero}
-use native.Mathlib.Omega.{arith}
 use mathlib.Core.Path.{_≡_, sym, ap, _∙_}
 use mathlib.Core.Logic.{_≢_}
 use mathlib.Core.Bool.{Bool, true, false, not, _&&_, Bool·beq}
 use mathlib.Core.List.{List}
-use lib.ListN.{length, getD}
+use lib.ListN.{getD}
 use lib.Dec.{eqb}
 use borrow.Author.Tests.{eq-eqb, ne-eqb, not-true, not-false}
 use Rattle.model.specs.Lists.{if_then_else_, part}
 use Rattle.model.specs.Words.{mainKind, between, sameWords}
 use Rattle.model.specs.Codes.{sessionType}
 use Rattle.model.specs.Item as model
-use Rattle.model.specs.Item.{itemAt, itemLength, code}
+use Rattle.model.specs.Item.{itemAt, code}
 use Rattle.model.specs.History.{Entry, entry, main}
 use Rattle.model.specs.Phase.{sessionOf}
 use Rattle.model.specs.Only.{childOf}
-use Rattle.format.specs.declared.item.Item.{Item}
 use Rattle.format.specs.Base.{base}
 use Rattle.format.specs.Layout.{itemOf}
 use Rattle.index.specs.declared.Known.{Known}
@@ -36,19 +34,6 @@ from-known {board} {e} {c} is =
 
 pub is-known : {board : List ℕ} {e : Entry} {c : Known} → IsKnown board e c → IsKnown board (entryFrom board c) c
 is-known is = rw (from-known is) is
-
--- the parts of an item that ends within the board lie within it
-pub record Within (board : List ℕ) (i : Item) : Type 0 where
-  pub content : i .content + i .head .count ≤ length board
-  pub parent : i .parent + 8 ≤ length board
-  pub address : i .address + 8 ≤ length board
-
-pub parts-within : {board : List ℕ} (p : ℕ) {i : Item} → i ≡ itemOf board p → i .end ≤ length board → Within board i
-unfolding itemOf itemLength
-parts-within p e l = let l′ = rw e at l in rw e (record { content = omega arith; parent = omega arith; address = omega arith })
-
-pub known-within : {board : List ℕ} {e : Entry} {c : Known} → IsKnown board e c → Within board (c .item)
-known-within {board} {e} is = parts-within (e .place) (known-item is) (is .within)
 
 -- ---- a test's answer of the view is that of the entry
 

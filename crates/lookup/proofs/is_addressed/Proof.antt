@@ -1,5 +1,6 @@
 -- `is_addressed` meets its contract: the two returns are the two cases of the kind. Assumes nothing.
-use Rattle.lookup.proofs.Views.{known-within, addressed-other, addressed-same}
+use Rattle.index.proofs.Reading.{known-within}
+use Rattle.lookup.proofs.Views.{addressed-other, addressed-same}
 use Rattle.lookup.proofs.is_addressed.Statement.{statement}
 use Rattle.lookup.proofs.is_addressed.Tie as tie
 

@@ -1,6 +1,7 @@
 -- `is_session_of` meets its contract: a session has a first content word, its voter. Assumes nothing.
 use native.Mathlib.Omega.{arith}
-use Rattle.lookup.proofs.Views.{known-within, session-other, session-same}
+use Rattle.index.proofs.Reading.{known-within}
+use Rattle.lookup.proofs.Views.{session-other, session-same}
 use Rattle.lookup.proofs.is_session_of.Statement.{statement}
 use Rattle.lookup.proofs.is_session_of.Tie as tie
 

@@ -1,7 +1,7 @@
 -- `parent_number` meets its contract: genesis is its own parent, any other's is the first with the address. Assumes nothing.
 use borrow.Author.Needs.{needs}
 use mathlib.Core.Path.{refl}
-use Rattle.lookup.proofs.Views.{parts-within}
+use Rattle.index.proofs.Reading.{parts-within}
 use Rattle.lookup.proofs.Numbers.{parent-own, parent-sought}
 use Rattle.lookup.proofs.parent_number.Statement.{statement}
 use Rattle.lookup.proofs.parent_number.Tie as tie
