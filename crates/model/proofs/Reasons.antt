@@ -1,0 +1,222 @@
+-- The audit gives every answer for its reason: the outcome is the one that `Answers` tells, and there is exactly one. Paper: "Refusals and
+-- their order" ("The first that applies is the answer"). Assumes nothing.
+use Prim.Native.Nat.{ℕ, zero, suc, _+_, _*_, _≤_, _<_}
+use native.Mathlib.Nat.{not-suc-le-zero}
+use native.Mathlib.Omega.{arith}
+use native.Mathlib.Decide.{decLe}
+use mathlib.Core.Path.{_≡_, refl, sym, ap, subst, _∙_}
+use mathlib.Core.Logic.{_≢_, _↔_, by-cases}
+use mathlib.Core.Bool.{Bool, true, not}
+use mathlib.Core.Option.{Option, none, some}
+use mathlib.Core.List.{List, [], _∷_, _++_, map}
+use lib.ListN.{length, getD}
+use lib.Dec.{T, eqb, leb, ltb}
+use borrow.Author.Tests.{eqb-true, eqb-false}
+use Rattle.model.specs.Lists.{if_then_else_, any}
+use Rattle.model.specs.Words.{isClosing}
+use Rattle.model.specs.Refusal.{noFault, tooLarge, emptyBoard, truncated}
+use Rattle.model.specs.Format.{Format}
+use Rattle.model.specs.Types.{Row, rowOf, fits}
+use Rattle.model.specs.History.{History, placeOf, history}
+use Rattle.model.specs.Counted.{counted}
+use Rattle.model.specs.Audit.{Outcome, unread, refused, accepted, Check, firstUnmet, checks, faultIn, fault, closing, judged, items, audit, itemLimit, isTooLarge, isShort, isEmpty, ballotRow, closingOk}
+use Rattle.model.specs.Reasons.{Reason, NoneOf, FirstOf, startReasons, listedWith, EndsAt, ClosesAt, HeadAt, itemReasons, closingReasons, Reached, Answers, atStart, atEmpty, atEnd, atItem, atClosing, acceptance}
+use Rattle.model.proofs.Tests.{tests, by-test, passes, neither, if-yes, if-no, by-if}
+use Rattle.model.proofs.Lists.{Every}
+use Rattle.model.proofs.Unchecked.{length-history}
+use Rattle.model.proofs.Steps.{itemsFrom, judged-refused, items-start, items-ended, items-closing, items-full, items-refused, items-passed}
+
+-- ---- the first reason that applies
+
+-- its number, 0 where none applies
+unfoldable firstNumber : List Reason → ℕ
+unfolding if_then_else_
+firstNumber [] = noFault
+firstNumber (r ∷ rs) = if r .applies then r .number else firstNumber rs
+
+-- none applies, or one is the first
+by-first : {X : Type 0} (rs : List Reason) → (NoneOf rs → X) → ((n : ℕ) → FirstOf rs n → X) → X
+unfolding any
+by-first [] unmet found = unmet tt
+by-first (r ∷ rs) unmet found =
+    by-test (r .applies)
+    (λ q. found (r .number) (record { earlier = []; reason = r; later = rs; listed = refl; noEarlier = tt; applies = rw q tt; number = refl }))
+    (λ q. by-first rs (λ u. unmet (rw q u)) λ n s. found n (record {
+      earlier = r ∷ s .earlier;
+      reason = s .reason;
+      later = s .later;
+      listed = ap (r ∷_) (s .listed);
+      noEarlier = rw q (s .noEarlier);
+      applies = s .applies;
+      number = s .number;
+    }))
+
+none-number : (rs : List Reason) → NoneOf rs → firstNumber rs ≡ noFault
+unfolding any firstNumber
+none-number [] u = refl
+none-number (r ∷ rs) u = by-test (r .applies) (λ q. absurd (rw q at u)) (λ q. rw q (none-number rs (rw q at u)))
+
+number-append : (es : List Reason) (r : Reason) (rs : List Reason) → NoneOf es → T (r .applies) → firstNumber (es ++ (r ∷ rs)) ≡ r .number
+unfolding any firstNumber
+number-append [] r rs u t = if-yes (r .applies) _ _ t
+number-append (e ∷ es) r rs u t = by-test (e .applies) (λ q. absurd (rw q at u)) (λ q. rw q (number-append es r rs (rw q at u) t))
+
+first-number : {rs : List Reason} {n : ℕ} → FirstOf rs n → firstNumber rs ≡ n
+first-number s = rw (s .listed) (number-append (s .earlier) (s .reason) (s .later) (s .noEarlier) (s .applies) ∙ s .number)
+
+every-middle : {A : Type 0} (P : A → Type 0) (xs : List A) (y : A) (ys : List A) → Every P (xs ++ (y ∷ ys)) → P y
+every-middle P [] y ys all = all .0
+every-middle P (x ∷ xs) y ys all = every-middle P xs y ys (all .1)
+
+-- what holds of every number holds of the first
+every-first : (P : ℕ → Type 0) {rs : List Reason} {n : ℕ} → Every (λ r. P (r .number)) rs → FirstOf rs n → P n
+every-first P all s =
+    rw (s .number) at (every-middle (λ r. P (r .number)) (s .earlier) (s .reason) (s .later) (rw (s .listed) at all))
+
+-- ---- an item's fault is its first reason's number
+
+unmet : Check → Reason
+unmet c = record { number = c .number; applies = not (c .met) }
+
+unmet-number : (cs : List Check) → firstUnmet cs ≡ firstNumber (map unmet cs)
+unfolding unmet firstUnmet firstNumber
+unmet-number [] = refl
+unmet-number (c ∷ cs) = by-test (c .met) (λ q. rw q (unmet-number cs)) (λ q. rw q)
+
+module _ (f : Format) (ws vs : List ℕ) (k : ℕ) where
+  by-row : (row : Option Row) → rowOf f (getD ws (placeOf f ws k) 0) ≡ row
+      → firstNumber (itemReasons f ws vs k) ≡ (if leb itemLimit k then tooLarge else faultIn f ws vs row (history f ws k) (placeOf f ws k))
+  unfolding itemReasons listedWith firstNumber faultIn checks unmet
+  by-row none q = rw q
+  by-row (some r) q = rw (q, unmet-number)
+
+  full-number : itemLimit ≤ k → firstNumber (itemReasons f ws vs k) ≡ tooLarge
+  full-number l = by-row _ refl ∙ if-yes (leb itemLimit k) _ _ (omega (arith, tests))
+
+  fault-number : k < itemLimit → fault f ws vs (history f ws k) (placeOf f ws k) ≡ firstNumber (itemReasons f ws vs k)
+  fault-number l = sym (by-row _ refl ∙ if-no (leb itemLimit k) _ _ (omega (arith, tests)))
+
+  few : NoneOf (itemReasons f ws vs k) → k < itemLimit
+  unfolding itemReasons any
+  few u = omega (arith, tests, simp neither at u .0)
+
+  -- no item has the number 0 for a refusal
+  some-number : {n : ℕ} → FirstOf (itemReasons f ws vs k) n → n ≢ noFault
+  unfolding itemReasons
+  some-number s = every-first (λ n. n ≢ noFault) (omega arith) s
+
+-- ---- the audit along the reasons
+
+module _ (f : Format) (ws vs : List ℕ) (room k : ℕ) where
+  abbrev after : ℕ → Outcome
+  after = itemsFrom f ws vs room
+
+  -- no reason applies to an item
+  item-passed : HeadAt f ws k → NoneOf (itemReasons f ws vs k) → after k ≡ after (suc k)
+  item-passed (there, head) u =
+      let small = few f ws vs k u in
+      items-passed f ws vs room k there head small (fault-number f ws vs k small ∙ none-number _ u)
+
+  -- a reason is the first to apply to it
+  item-refused : (n : ℕ) → HeadAt f ws k → FirstOf (itemReasons f ws vs k) n → after k ≡ refused n k
+  item-refused n (there, head) s =
+      by-cases (decLe itemLimit k)
+      (λ l. rw (sym (first-number s) ∙ full-number f ws vs k l) (items-full f ws vs room k there head l))
+      (λ l. items-refused f ws vs room k there head (omega arith) n (fault-number f ws vs k (omega arith) ∙ first-number s) (some-number f ws vs k s))
+
+  -- at the closing word
+  closing-number : closing f ws vs room (history f ws k) (placeOf f ws k)
+      ≡ judged f ws vs room (firstNumber (closingReasons f ws vs k room)) (history f ws k) (accepted (history f ws k))
+  unfolding closing judged closingReasons firstNumber
+  closing-number =
+      by-test (not (closingOk ws vs (history f ws k) (placeOf f ws k)))
+      (λ q. rw q)
+      (λ q. rw q (by-test (ltb room (ballotRow * length (counted (history f ws k)))) (λ s. rw s) (λ s. rw s)))
+
+  closing-refused : (n : ℕ) → ClosesAt f ws k → FirstOf (closingReasons f ws vs k room) n → after k ≡ refused n k
+  unfolding closingReasons
+  closing-refused n (there, last) s =
+      let some = every-first (λ m. m ≢ noFault) (omega arith) s in
+      items-closing f ws vs room k there last ∙ closing-number
+      ∙ rw (first-number s) (judged-refused f ws vs room n (history f ws k) _ some ∙ rw (length-history f ws k))
+
+  closing-accepted : ClosesAt f ws k → NoneOf (closingReasons f ws vs k room) → after k ≡ accepted (history f ws k)
+  unfolding judged
+  closing-accepted (there, last) u = items-closing f ws vs room k there last ∙ closing-number ∙ rw (none-number _ u)
+
+module _ (f : Format) (ws vs : List ℕ) (index ballots : ℕ) where
+  -- before the items
+  startAnswer : ℕ → Outcome → Outcome
+  unfolding if_then_else_
+  startAnswer n o = if eqb n noFault then o else if eqb n emptyBoard then refused emptyBoard 0 else unread n
+
+  start-number : audit f ws vs index ballots ≡ startAnswer (firstNumber (startReasons ws index ballots)) (items f ws vs ballots itemLimit [] 0)
+  unfolding audit startAnswer startReasons firstNumber
+  start-number =
+      by-test (isTooLarge ws) (λ q. rw q)
+      (λ q. rw q (by-test (isShort index ballots) (λ s. rw s)
+      (λ s. rw s (by-test (isEmpty ws) (λ t. rw t) (λ t. rw t)))))
+
+  -- the first k items pass
+  reached : (k : ℕ) → Reached f ws vs index ballots k → audit f ws vs index ballots ≡ itemsFrom f ws vs ballots k
+  unfolding startAnswer
+  reached zero r = start-number ∙ rw (none-number _ (r .started)) (items-start f ws vs ballots)
+  reached (suc k) r =
+      let last = r .passed k (omega arith) in
+      let before : Reached f ws vs index ballots k = record { started = r .started; passed = λ j l. r .passed j (omega arith) } in
+      reached k before ∙ item-passed f ws vs ballots k (last .0) (last .1)
+
+  answered : {o : Outcome} → Answers f ws vs index ballots o → audit f ws vs index ballots ≡ o
+  unfolding startAnswer startReasons
+  answered (atStart n s other) =
+      let some = every-first (λ m. m ≢ noFault) (omega arith) s in
+      start-number ∙ rw (first-number s) (if-no (eqb n noFault) _ _ (omega (arith, tests)) ∙ if-no (eqb n emptyBoard) _ _ (omega (arith, tests)))
+  answered (atEmpty s) = start-number ∙ rw (first-number s)
+  answered (atEnd k r end) = reached k r ∙ items-ended f ws vs ballots k end
+  answered (atItem n k r head s) = reached k r ∙ item-refused f ws vs ballots k n head s
+  answered (atClosing n k r last s) = reached k r ∙ closing-refused f ws vs ballots k n last s
+  answered (acceptance k r last u) = reached k r ∙ closing-accepted f ws vs ballots k last u
+
+  abbrev Answered : Type 0
+  Answered = (o : Outcome) × Answers f ws vs index ballots o
+
+  further : (k : ℕ) → Reached f ws vs index ballots k → HeadAt f ws k → NoneOf (itemReasons f ws vs k) → Reached f ws vs index ballots (suc k)
+  further k r head u = record {
+    started = r .started;
+    passed = λ j l. by-cases (decLe (suc j) k) (λ m. r .passed j m) (λ m. let same : j ≡ k = omega arith in rw same (head, u));
+  }
+
+  -- behind the first k items there is an answer, or another item that passes
+  by-word : (k : ℕ) → Reached f ws vs index ballots k → (HeadAt f ws k → NoneOf (itemReasons f ws vs k) → Answered) → Answered
+  by-word k r next =
+      by-cases (decLe (length ws) (placeOf f ws k)) (λ end. (refused truncated k, atEnd k r end))
+      λ l.
+      let there : placeOf f ws k < length ws = omega arith in
+      by-test (isClosing (getD ws (placeOf f ws k) 0))
+      (λ q. by-first (closingReasons f ws vs k ballots)
+      (λ u. (accepted (history f ws k), acceptance k r (there, passes q) u))
+      (λ n s. (refused n k, atClosing n k r (there, passes q) s)))
+      (λ q. by-first (itemReasons f ws vs k) (next (there, rw q tt)) (λ n s. (refused n k, atItem n k r (there, rw q tt) s)))
+
+  -- where m more items are allowed
+  by-items : (m k : ℕ) → m + k ≡ itemLimit → Reached f ws vs index ballots k → Answered
+  by-items zero k e r = by-word k r (λ head u. absurd (omega (arith, few f ws vs k u)))
+  by-items (suc m) k e r = by-word k r (λ head u. by-items m (suc k) (omega arith) (further k r head u))
+
+  some-answer : Answered
+  some-answer =
+      by-first (startReasons ws index ballots)
+      (λ u. by-items itemLimit 0 refl (record { started = u; passed = λ j l. absurd (not-suc-le-zero l) }))
+      λ n s. by-test (eqb n emptyBoard)
+      (λ q. (refused emptyBoard 0, atEmpty (rw (eqb-true n emptyBoard q) at s)))
+      (λ q. (unread n, atStart n s (eqb-false n emptyBoard q)))
+
+  -- the audit's outcome is the one for which there is a reason
+  pub answers : (o : Outcome) → (audit f ws vs index ballots ≡ o) ↔ Answers f ws vs index ballots o
+  answers o =
+      let (p, a) = some-answer in
+      (λ e. subst (Answers f ws vs index ballots) (sym (answered a) ∙ e) a, answered)
+
+  -- there is one, and no other
+  pub one-answer : (o : Outcome) × Answers f ws vs index ballots o × ((p : Outcome) → Answers f ws vs index ballots p → p ≡ o)
+  one-answer = (audit f ws vs index ballots, answers _ .0 refl, λ p a. sym (answered a))

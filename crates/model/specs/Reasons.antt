@@ -1,0 +1,135 @@
+-- Every answer for its reason: which of the paper's conditions is the first to apply, and where, with no word of how an audit goes on.
+-- Paper: "Refusals and their order". Assumes nothing.
+use Prim.Native.Nat.{ℕ, _*_, _≤_, _<_}
+use mathlib.Core.Path.{_≡_}
+use mathlib.Core.Logic.{_≢_}
+use mathlib.Core.Bool.{Bool, true, false, not}
+use mathlib.Core.Option.{Option, none, some}
+use mathlib.Core.List.{List, [], _∷_, _++_}
+use lib.ListN.{length, getD}
+use lib.Dec.{T, leb, ltb}
+use Rattle.model.specs.Lists.{any}
+use Rattle.model.specs.Words.{countOf, isClosing}
+use Rattle.model.specs.Refusal.{tooLarge, shortTable, emptyBoard, truncated, unknownType, wrongCount, wrongAddress, wrongPrevious, wrongParent, earlierTime, outOfPhase, duplicate, badContent, noVerdict, wrongKey, badSignature, tableFull, badClosing}
+use Rattle.model.specs.Format.{Format}
+use Rattle.model.specs.Item.{itemAt, behind}
+use Rattle.model.specs.Types.{Row, rowOf, fits}
+use Rattle.model.specs.History.{placeOf, history}
+use Rattle.model.specs.Counted.{counted}
+use Rattle.model.specs.Links.{addressOk, previousOk, parentOk, timeOk}
+use Rattle.model.specs.Phase.{phaseOk}
+use Rattle.model.specs.Only.{onlyOk}
+use Rattle.model.specs.Content.{contentOk}
+use Rattle.model.specs.Keys.{keyOf, verdictOk, keyOk, signatureOk}
+use Rattle.model.specs.Audit.{Outcome, unread, refused, accepted, itemLimit, ballotRow, isTooLarge, isShort, isEmpty, closingOk, verdictOf}
+
+-- a row of the paper's table: the refusal's number, and whether its condition applies
+pub record Reason : Type 0 where
+  pub number : ℕ
+  pub applies : Bool
+
+infix 80 _when_
+abbrev _when_ : ℕ → Bool → Reason
+n when b = record { number = n; applies = b }
+
+-- none of the reasons applies
+abbrev pub NoneOf : List Reason → Type 0
+NoneOf rs = T (not (any (λ r. r .applies) rs))
+
+-- "The first that applies is the answer": n is its number
+pub record FirstOf (rs : List Reason) (n : ℕ) : Type 0 where
+  pub earlier : List Reason
+  pub reason : Reason
+  pub later : List Reason
+  pub listed : rs ≡ earlier ++ (reason ∷ later)
+  pub noEarlier : NoneOf earlier
+  pub applies : T (reason .applies)
+  pub number : reason .number ≡ n
+
+-- "Word limit, 2 and 3 come first."
+unfoldable pub startReasons : List ℕ → ℕ → ℕ → List Reason
+startReasons ws index ballots =
+    tooLarge when isTooLarge ws
+    ∷ shortTable when isShort index ballots
+    ∷ emptyBoard when isEmpty ws
+    ∷ []
+
+-- a type is listed, and its row passes p
+unfoldable pub listedWith : (Row → Bool) → Option Row → Bool
+listedWith p none = false
+listedWith p (some r) = p r
+
+-- ---- behind the first k items
+
+module _ (f : Format) (ws : List ℕ) (k : ℕ) where
+  -- no word stands there
+  abbrev pub EndsAt : Type 0
+  EndsAt = length ws ≤ placeOf f ws k
+
+  -- a closing word
+  abbrev pub ClosesAt : Type 0
+  ClosesAt = (placeOf f ws k < length ws) × T (isClosing (getD ws (placeOf f ws k) 0))
+
+  -- another word: the head of an item
+  abbrev pub HeadAt : Type 0
+  HeadAt = (placeOf f ws k < length ws) × T (not (isClosing (getD ws (placeOf f ws k) 0)))
+
+module _ (f : Format) (ws vs : List ℕ) (k : ℕ) where
+  -- "item by item: the item limit, 5, 6, 4, then 7 to 16 in order"
+  unfoldable pub itemReasons : List Reason
+  itemReasons =
+      let p = placeOf f ws k in
+      let w = getD ws p 0 in
+      let row = rowOf f w in
+      let h = history f ws k in
+      let i = itemAt f ws p in
+      let v = verdictOf f ws vs h in
+      tooLarge when leb itemLimit k
+      ∷ unknownType when not (listedWith (λ r. true) row)
+      ∷ wrongCount when not (listedWith (λ r. fits (r .counts) (countOf w)) row)
+      ∷ truncated when ltb (length ws) (behind f ws p)
+      ∷ wrongAddress when not (addressOk f i)
+      ∷ wrongPrevious when not (previousOk f h i)
+      ∷ wrongParent when not (listedWith (λ r. parentOk f h (r .parent) i) row)
+      ∷ earlierTime when not (timeOk h i)
+      ∷ outOfPhase when not (phaseOk h i)
+      ∷ duplicate when not (onlyOk h i)
+      ∷ badContent when not (contentOk f h i)
+      ∷ noVerdict when not (verdictOk v)
+      ∷ wrongKey when not (listedWith (λ r. keyOk v (keyOf h (r .writer) i)) row)
+      ∷ badSignature when not (signatureOk v)
+      ∷ []
+
+  -- "At the closing word: 18, then 17", with so many words in the ballot table
+  unfoldable pub closingReasons : ℕ → List Reason
+  closingReasons room =
+      badClosing when not (closingOk ws vs (history f ws k) (placeOf f ws k))
+      ∷ tableFull when ltb room (ballotRow * length (counted (history f ws k)))
+      ∷ []
+
+-- the first k items pass: each has a head, and no reason applies to it
+abbrev pub PassedFirst : Format → List ℕ → List ℕ → ℕ → Type 0
+PassedFirst f ws vs k = (j : ℕ) → j < k → HeadAt f ws j × NoneOf (itemReasons f ws vs j)
+
+-- they do, and there was nothing to refuse before them
+pub record Reached (f : Format) (ws vs : List ℕ) (index ballots k : ℕ) : Type 0 where
+  pub started : NoneOf (startReasons ws index ballots)
+  pub passed : PassedFirst f ws vs k
+
+-- the answers, with so many words in the index table and in the ballot table
+pub data Answers (f : Format) (ws vs : List ℕ) (index ballots : ℕ) : Outcome → Type 0 where
+  -- 1's word limit, or 2
+  atStart : (n : ℕ) → FirstOf (startReasons ws index ballots) n → n ≢ emptyBoard → Answers f ws vs index ballots (unread n)
+  -- 3
+  atEmpty : FirstOf (startReasons ws index ballots) emptyBoard → Answers f ws vs index ballots (refused emptyBoard 0)
+  -- 4, "no closing word"
+  atEnd : (k : ℕ) → Reached f ws vs index ballots k → EndsAt f ws k → Answers f ws vs index ballots (refused truncated k)
+  -- 1's item limit, 5, 6, 4, or 7 to 16
+  atItem : (n k : ℕ) → Reached f ws vs index ballots k → HeadAt f ws k → FirstOf (itemReasons f ws vs k) n
+      → Answers f ws vs index ballots (refused n k)
+  -- 18, or 17
+  atClosing : (n k : ℕ) → Reached f ws vs index ballots k → ClosesAt f ws k → FirstOf (closingReasons f ws vs k ballots) n
+      → Answers f ws vs index ballots (refused n k)
+  -- "Acceptance gives 0"
+  acceptance : (k : ℕ) → Reached f ws vs index ballots k → ClosesAt f ws k → NoneOf (closingReasons f ws vs k ballots)
+      → Answers f ws vs index ballots (accepted (history f ws k))
