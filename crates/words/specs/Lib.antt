@@ -1,0 +1,2 @@
+-- Words and bytes.
+pub mod Bytes
