@@ -1,0 +1,2 @@
+-- Laws of the ballot table.
+pub mod Table

@@ -1,0 +1,2 @@
+-- What the ballot table holds.
+pub mod Rows
