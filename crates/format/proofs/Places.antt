@@ -1,0 +1,99 @@
+-- Laws of an item's layout: what stands at the places that `itemOf` gives is what the model reads there. Assumes nothing.
+use Prim.Native.Nat.{ℕ, _+_, _≤_, _<_}
+use native.Mathlib.Nat.{add-assoc}
+use native.Mathlib.Omega.{arith}
+use mathlib.Core.Path.{_≡_, refl, ap}
+use mathlib.Core.List.{List, append-assoc}
+use lib.ListN.{length, getD}
+use lib.Seq.{getD-drop, getD-take}
+use Rattle.model.specs.Lists.{part}
+use Rattle.model.specs.Words.{countOf, pair}
+use Rattle.model.specs.Format.{timeSize}
+use Rattle.model.specs.Item.{itemAt, itemLength, hashedLength, hashed, behind, word, time}
+use Rattle.model.proofs.Parts.{part-add, part-one}
+use Rattle.format.specs.Base.{base}
+use Rattle.format.specs.Layout.{headOf, itemOf}
+use Rattle.format.specs.declared.head.Head.{Head}
+use Rattle.format.specs.declared.item.Item.{Item}
+
+-- an item with its head at place p, part by part
+abbrev laid : ℕ → Head → ℕ → Item
+laid p h e = record {
+  place = p;
+  head = h;
+  content = p + 1;
+  parent = p + 1 + h .count;
+  previous = p + 1 + h .count + 8;
+  time = p + 1 + h .count + 8 + 8;
+  signature = p + 1 + h .count + 8 + 8 + 2;
+  address = p + 1 + h .count + 8 + 8 + 2 + 16;
+  end = e;
+}
+
+pub laid-out : (ws : List ℕ) (p : ℕ) (h : Head) → h ≡ headOf (getD ws p 0) → laid p h (p + 1 + h .count + 8 + 8 + 2 + 16 + 8) ≡ itemOf ws p
+unfolding itemOf itemLength
+laid-out ws p h e =
+    let n : h .count ≡ countOf (getD ws p 0) = ap (λ (g : Head). g .count) e in
+    let last : p + 1 + h .count + 8 + 8 + 2 + 16 + 8 ≡ behind base ws p = omega arith in
+    λ i. laid p (e i) (last i)
+
+module _ (ws : List ℕ) (p : ℕ) where
+  -- the place behind the item
+  pub end-is : itemOf ws p .end ≡ behind base ws p
+  unfolding itemOf
+  end-is = refl
+
+  pub place-is : itemOf ws p .place ≡ p
+  unfolding itemOf
+  place-is = refl
+
+  pub head-is : itemOf ws p .head ≡ headOf (itemAt base ws p .head)
+  unfolding itemOf itemAt
+  head-is = refl
+
+  pub count-is : itemOf ws p .head .count ≡ countOf (getD ws p 0)
+  unfolding itemOf
+  count-is = refl
+
+  -- the parts
+  pub content-is : part (itemOf ws p .content) (itemOf ws p .head .count) ws ≡ itemAt base ws p .content
+  unfolding itemOf itemAt
+  content-is = refl
+
+  pub parent-is : part (itemOf ws p .parent) (base .address) ws ≡ itemAt base ws p .parent
+  unfolding itemOf itemAt
+  parent-is = refl
+
+  pub previous-is : part (itemOf ws p .previous) (base .address) ws ≡ itemAt base ws p .previous
+  unfolding itemOf itemAt
+  previous-is = refl
+
+  pub stamp-is : part (itemOf ws p .time) timeSize ws ≡ itemAt base ws p .stamp
+  unfolding itemOf itemAt
+  stamp-is = refl
+
+  pub time-is : pair (part (itemOf ws p .time) timeSize ws) ≡ time (itemAt base ws p)
+  unfolding itemOf itemAt
+  time-is = refl
+
+  pub signature-is : part (itemOf ws p .signature) (base .signature) ws ≡ itemAt base ws p .signature
+  unfolding itemOf itemAt
+  signature-is = refl
+
+  pub address-is : part (itemOf ws p .address) (base .address) ws ≡ itemAt base ws p .address
+  unfolding itemOf itemAt
+  address-is = refl
+
+  -- the hashed words: from the place up to the signature
+  pub hashed-is : itemOf ws p .end ≤ length ws → part p (hashedLength base (itemOf ws p .head .count)) ws ≡ hashed (itemAt base ws p)
+  unfolding itemOf itemAt itemLength hashedLength hashed
+  hashed-is h = simp (part-add, append-assoc, ← add-assoc, part-one p ws 0 (omega arith))
+
+  pub signature-behind : itemOf ws p .signature ≡ p + hashedLength base (itemOf ws p .head .count)
+  unfolding itemOf hashedLength
+  signature-behind = omega arith
+
+  -- content word k
+  pub word-is : (k : ℕ) → k < itemOf ws p .head .count → word k (itemAt base ws p) ≡ getD ws (itemOf ws p .content + k) 0
+  unfolding itemOf itemAt part
+  word-is k h = rw (getD-take, getD-drop)

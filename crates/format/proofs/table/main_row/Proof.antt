@@ -1,0 +1,93 @@
+-- `table::main_row` meets its contract: at each code the model's table is computed. Assumes nothing.
+use borrow.Author.Tests.{eq-eqb, ne-eqb, le-leb, lt-leb}
+use Rattle.model.specs.Lists.{if_then_else_}
+use Rattle.model.specs.Types.{rowIn, table}
+use Rattle.format.proofs.table.main_row.Statement.{statement}
+use Rattle.format.proofs.table.main_row.Tie as tie
+
+ruleset tests = (eq-eqb, ne-eqb, le-leb, lt-leb)
+
+returns : tie.Need-returns
+unfolding rowIn table if_then_else_
+returns c = rw (c .match .keys1)
+
+returns-2 : tie.Need-returns-2
+unfolding rowIn table if_then_else_
+returns-2 c = rw (c .match .keys2)
+
+returns-3 : tie.Need-returns-3
+unfolding rowIn table if_then_else_
+returns-3 c = rw (c .match .keys3)
+
+returns-4 : tie.Need-returns-4
+unfolding rowIn table if_then_else_
+returns-4 c = rw (c .match .keys4)
+
+returns-5 : tie.Need-returns-5
+unfolding rowIn table if_then_else_
+returns-5 c = rw (c .match .keys5)
+
+returns-6 : tie.Need-returns-6
+unfolding rowIn table if_then_else_
+returns-6 c = rw (c .match .keys6)
+
+returns-7 : tie.Need-returns-7
+unfolding rowIn table if_then_else_
+returns-7 c = rw (c .match .keys7)
+
+returns-8 : tie.Need-returns-8
+unfolding rowIn table if_then_else_
+returns-8 c = rw (c .match .keys8)
+
+returns-9 : tie.Need-returns-9
+unfolding rowIn table if_then_else_
+returns-9 c = rw (c .match .keys9)
+
+returns-10 : tie.Need-returns-10
+unfolding rowIn table if_then_else_
+returns-10 c = rw (c .match .keys10)
+
+returns-11 : tie.Need-returns-11
+unfolding rowIn table if_then_else_
+returns-11 c = rw (c .match .keys11)
+
+returns-12 : tie.Need-returns-12
+unfolding rowIn table if_then_else_
+returns-12 c = rw (c .match .keys12)
+
+returns-13 : tie.Need-returns-13
+unfolding rowIn table if_then_else_
+returns-13 c = rw (c .match .keys13)
+
+returns-14 : tie.Need-returns-14
+unfolding rowIn table if_then_else_
+returns-14 c = rw (c .match .keys14)
+
+returns-15 : tie.Need-returns-15
+unfolding rowIn table if_then_else_
+returns-15 c = rw (c .match .keys15)
+
+returns-16 : tie.Need-returns-16
+unfolding rowIn table if_then_else_
+returns-16 c = search tests
+
+pub main-row-spec : {M : Type 1} → statement M
+main-row-spec =
+    tie.close
+    (tie.spec
+    returns
+    returns-2
+    returns-3
+    returns-4
+    returns-5
+    returns-6
+    returns-7
+    returns-8
+    returns-9
+    returns-10
+    returns-11
+    returns-12
+    returns-13
+    returns-14
+    returns-15
+    returns-16)

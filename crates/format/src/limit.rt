@@ -1,0 +1,40 @@
+// The limits of the paper, "Refusals and their order": how much a board may have, and how much a table must have room for.
+ghost use mathlib.Core.Path.{_≡_};
+ghost use Rattle.format.specs.Limit.{limits};
+
+pub struct Limit {
+    pub words: usize,
+    pub items: usize,
+    pub index: usize,
+    pub ballots: usize,
+}
+
+impl Limit {
+    // Words of a board.
+    pub const WORDS: usize = 262_144;
+
+    // Items of a board.
+    pub const ITEMS: usize = 2_048;
+
+    // Words of a row of the index table, and of the ballot table.
+    pub const INDEX_ROW: usize = 4;
+
+    pub const BALLOT_ROW: usize = 3;
+
+    // Words that the index table needs, and the ballot table.
+    pub const INDEX: usize = Limit::INDEX_ROW * Limit::ITEMS;
+
+    pub const BALLOTS: usize = Limit::BALLOT_ROW * Limit::ITEMS;
+
+    // The limits together.
+    pub fn all() -> Self
+        ensures { λ r. ⌜ r ≡ limits ⌝ }
+    {
+        Limit {
+            words: Limit::WORDS,
+            items: Limit::ITEMS,
+            index: Limit::INDEX,
+            ballots: Limit::BALLOTS,
+        }
+    }
+}
