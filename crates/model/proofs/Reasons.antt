@@ -69,7 +69,7 @@ every-middle P [] y ys all = all .0
 every-middle P (x ∷ xs) y ys all = every-middle P xs y ys (all .1)
 
 -- what holds of every number holds of the first
-every-first : (P : ℕ → Type 0) {rs : List Reason} {n : ℕ} → Every (λ r. P (r .number)) rs → FirstOf rs n → P n
+pub every-first : (P : ℕ → Type 0) {rs : List Reason} {n : ℕ} → Every (λ r. P (r .number)) rs → FirstOf rs n → P n
 every-first P all s =
     rw (s .number) at (every-middle (λ r. P (r .number)) (s .earlier) (s .reason) (s .later) (rw (s .listed) at all))
 

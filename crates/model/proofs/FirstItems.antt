@@ -1,0 +1,116 @@
+-- The first k items pass, by the reasons for a refusal, exactly where they are a beginning of the words that meets the rules of a sound board.
+-- Paper: "Refusals and their order"; demand 2. Assumes nothing.
+use Prim.Native.Nat.{ℕ, zero, suc, _+_, _*_, _≤_, _<_, zero-le}
+use native.Mathlib.Nat.{not-suc-le-zero}
+use native.Mathlib.Decide.{decLe}
+use native.Mathlib.Omega.{arith}
+use mathlib.Core.Path.{_≡_, refl, sym, ap, subst, _∙_}
+use mathlib.Core.Logic.{_↔_, by-cases}
+use mathlib.Core.Option.{Option, none, some}
+use mathlib.Core.List.{List, [], _∷_, _++_, append-assoc}
+use lib.ListN.{length, getD, take, drop, take-append-drop, length-append}
+use lib.Seq.{drop-at, length-take-le}
+use lib.Dec.{T}
+use Rattle.model.specs.Lists.{any, part}
+use Rattle.model.specs.Words.{countOf}
+use Rattle.model.specs.Format.{Format, verdictSize}
+use Rattle.model.specs.Item.{Item, itemAt, itemLength, behind, wordsOf}
+use Rattle.model.specs.Types.{Row, rowOf}
+use Rattle.model.specs.History.{History, placeOf, history}
+use Rattle.model.specs.Audit.{checks, itemLimit, verdictOf}
+use Rattle.model.specs.Sound.{Meets, Passed, next, Beginning}
+use Rattle.model.specs.Reasons.{NoneOf, HeadAt, listedWith, itemReasons, PassedFirst}
+use Rattle.model.proofs.Tests.{tests, ne→neqb, neither, not-not}
+use Rattle.model.proofs.Parts.{cut, take-part}
+use Rattle.model.proofs.Parsing.{length-words, item-here, shaped-at, words-at}
+use Rattle.model.proofs.Table.{no-closing}
+use Rattle.model.proofs.Entries.{orderly}
+use Rattle.model.proofs.Keys.{verdict-words, length-verdicts}
+use Rattle.model.proofs.Checks.{AllMet, meets, met}
+use Rattle.model.proofs.Unchecked.{length-history, passed-history}
+
+module _ (f : Format) (ws vs : List ℕ) (k : ℕ) where
+  abbrev here : ℕ
+  here = placeOf f ws k
+
+  abbrev Meeting : Type 0
+  Meeting = (behind f ws here ≤ length ws) × Meets f (history f ws k) (verdictOf f ws vs (history f ws k)) (itemAt f ws here)
+
+  meets-row : (row : Option Row) → rowOf f (getD ws here 0) ≡ row → NoneOf (itemReasons f ws vs k) → Meeting
+  unfolding any itemReasons listedWith itemAt checks
+  meets-row none q u = absurd (simp (neither, not-not) at (rw q at u) .1 .0)
+  meets-row (some r) q u =
+      let (small, (listed, (counted, (whole, rules)))) = simp (neither, not-not) at (rw q at u) in
+      let fit : behind f ws here ≤ length ws = omega (arith, tests) in
+      (fit, meets f _ _ (itemAt f ws here) (record { row = r; found = q }) counted (shaped-at f ws here fit) rules)
+
+  none-meets : NoneOf (itemReasons f ws vs k) → Meeting
+  none-meets = meets-row (rowOf f (getD ws here 0)) refl
+
+  meets-none : k < itemLimit → length (verdictOf f ws vs (history f ws k)) ≡ verdictSize → Meeting → NoneOf (itemReasons f ws vs k)
+  unfolding any itemReasons listedWith itemAt checks
+  meets-none small long (fit, m) =
+      rw (m .listed .found) (simp (neither, not-not) (omega (arith, tests), (tt, (m .counted, (omega (arith, tests), met f _ _ (itemAt f ws here) m long)))))
+
+  abbrev Passing : Type 0
+  Passing = (here ≤ length ws) × Passed f (take here ws) (take (verdictSize * k) vs) (history f ws k)
+
+-- the words and the verdict words of the first k items
+passing : (f : Format) (ws vs : List ℕ) (k : ℕ) → PassedFirst f ws vs k → Passing f ws vs k
+unfolding placeOf history
+passing f ws vs zero all = (zero-le, Passed.none)
+passing f ws vs (suc k) all =
+    let p = placeOf f ws k in
+    let (within, before) = passing f ws vs k (λ j l. all j (omega arith)) in
+    let (fit, m) = none-meets f ws vs k (all k (omega arith) .1) in
+    let place : length (take p ws) ≡ p = length-take-le p ws within in
+    let verdicts : verdictSize * suc k ≡ verdictSize * k + verdictSize = omega arith in
+    let passed = rw place at (next _ _ _ _ _ before (rw (length-history f ws k) at m)) in
+    (fit, rw (verdicts, take-part p _ ws, take-part _ verdictSize vs, ← words-at f ws p fit) passed)
+
+-- an item that meets the rules behind those that were passed
+module _ {f : Format} {u vu v : List ℕ} {h : History} {i : Item} (p : Passed f u vu h) (m : Meets f h v i) (rest vrest : List ℕ) where
+  abbrev ws : List ℕ
+  ws = u ++ (wordsOf i ++ rest)
+
+  abbrev vs : List ℕ
+  vs = vu ++ (v ++ vrest)
+
+  next-passes : length h < itemLimit → HeadAt f ws (length h) × NoneOf (itemReasons f ws vs (length h))
+  unfolding itemAt itemLength
+  next-passes small =
+      let (same, place) = passed-history p (wordsOf i ++ rest) in
+      let nine : length v ≡ verdictSize = verdict-words m (orderly p) in
+      let read : itemAt f ws (length u) ≡ i = item-here f u i rest (m .shaped) in
+      let head : getD ws (length u) 0 ≡ i .head = ap (λ (j : Item). j .head) read in
+      let verdict : part (verdictSize * length h) verdictSize vs ≡ v = cut _ vs (drop-at vu (v ++ vrest) _ (length-verdicts p)) nine .0 in
+      let whole : length u + itemLength f (countOf (i .head)) ≤ length ws = simp length-append (omega (arith, length-words f i (m .shaped))) in
+      let meeting : Meeting f ws vs (length h) = rw (← same, place, read, verdict, head) (whole, m) in
+      ((rw place (omega arith), rw (place, head) (ne→neqb _ 15 (no-closing (m .listed)))), meets-none f ws vs (length h) small (rw (← same, verdict) nine) meeting)
+
+passed-first : {f : Format} {u vu : List ℕ} {h : History} → Passed f u vu h → (rest vrest : List ℕ) → length h ≤ itemLimit
+    → PassedFirst f (u ++ rest) (vu ++ vrest) (length h)
+passed-first Passed.none rest vrest few j l = absurd (not-suc-le-zero l)
+passed-first {f} (next u vu h v i p m) rest vrest few j l =
+    let small = simp length-append at few in
+    let less = simp length-append at l in
+    rw (append-assoc u (wordsOf i) rest, append-assoc vu v vrest)
+    (by-cases (decLe (suc j) (length h))
+    (λ n. passed-first p (wordsOf i ++ rest) (v ++ vrest) (omega arith) j n)
+    (λ n. let same : j ≡ length h = omega arith in rw same (next-passes p m rest vrest (omega arith))))
+
+pub first-items : (f : Format) (ws vs : List ℕ) (k : ℕ) → k ≤ itemLimit → PassedFirst f ws vs k ↔ Beginning f ws vs (history f ws k)
+first-items f ws vs k few = (
+  λ all. record {
+    words = take (placeOf f ws k) ws;
+    wordsLeft = drop (placeOf f ws k) ws;
+    verdicts = take (verdictSize * k) vs;
+    verdictsLeft = drop (verdictSize * k) vs;
+    ofWords = sym (take-append-drop (placeOf f ws k) ws);
+    ofVerdicts = sym (take-append-drop (verdictSize * k) vs);
+    passed = passing f ws vs k all .1;
+  },
+  λ b.
+      let size = length-history f ws k in
+      rw (b .ofWords, b .ofVerdicts) (rw size at (passed-first (b .passed) (b .wordsLeft) (b .verdictsLeft) (omega arith))),
+)
