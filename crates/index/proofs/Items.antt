@@ -1,0 +1,124 @@
+-- The items of a board whose first items pass: each stands at its place, within the board, its type is listed, and its parent and its
+-- session are items no later than it. Assumes nothing.
+use Prim.Native.Nat.{ℕ, zero, suc, _≤_, _<_}
+use native.Mathlib.Nat.{le-refl, not-suc-le-zero}
+use native.Mathlib.Decide.{decLe}
+use native.Mathlib.Omega.{arith}
+use mathlib.Core.Path.{_≡_}
+use mathlib.Core.Logic.{_≢_, by-cases}
+use mathlib.Core.Bool.{false}
+use mathlib.Core.List.{List}
+use lib.ListN.{length}
+use lib.Dec.{T, eqb}
+use borrow.Author.Tests.{ne-eqb}
+use Rattle.model.specs.Codes.{sessionType}
+use Rattle.model.specs.Item.{itemAt, code}
+use Rattle.model.specs.History.{entry, typed, placeOf, entryOf}
+use Rattle.model.specs.Sound.{Shaped, Meets, Passed}
+use Rattle.model.proofs.Tests.{by-test}
+use Rattle.model.proofs.Parsing.{shaped-at}
+use Rattle.model.proofs.Entries.{Fine, orderly, fine-at, parent-genesis, parent-bound, session-bound}
+use Rattle.model.proofs.Beginnings.{made-at}
+use Rattle.model.proofs.Unchecked.{length-history, history-take, entry-history}
+use Rattle.format.specs.Base.{base}
+use Rattle.format.specs.Layout.{itemOf}
+use Rattle.index.specs.Kept.{before, itemAfter, Kept}
+
+-- ---- places and items, whether they pass or not
+
+-- places go up
+pub place-le : (board : List ℕ) (k n : ℕ) → k ≤ n → placeOf base board k ≤ placeOf base board n
+unfolding placeOf
+place-le board k zero l = let none : k ≡ 0 = omega arith in rw none (le-refl 0)
+place-le board k (suc n) l =
+    by-cases (decLe k n)
+    (λ m. omega (arith, place-le board k n m))
+    (λ m. let same : k ≡ suc n = omega arith in rw same (le-refl _))
+
+-- item k, where it is one of the first n
+module _ (board : List ℕ) (n : ℕ) where
+  -- it was made after the items before it
+  pub entry-made : (k : ℕ) → k < n → entry (before board n) (suc k) ≡ entryOf (before board k) (placeOf base board k) (itemAfter board k)
+  entry-made k l = entry-history base board n k l
+
+  -- it stands at its place
+  pub entry-item : (k : ℕ) → 1 ≤ k → k ≤ n → entry (before board n) k .item ≡ itemAt base board (entry (before board n) k .place)
+  unfolding entryOf
+  entry-item zero s l = absurd (not-suc-le-zero s)
+  entry-item (suc k) s l = rw (entry-made k l)
+
+  -- it ends before the item after the first n
+  pub entry-end : (k : ℕ) → 1 ≤ k → k ≤ n → itemOf board (entry (before board n) k .place) .end ≤ placeOf base board n
+  unfolding entryOf itemOf placeOf
+  entry-end zero s l = absurd (not-suc-le-zero s)
+  entry-end (suc k) s l = rw (entry-made k l) (place-le board (suc k) n l)
+
+-- ---- the items that pass
+
+-- the item after the first k meets the rules, under some verdict, and the first k pass
+pub record Met (board : List ℕ) (k : ℕ) : Type 0 where
+  pub verdict : List ℕ
+  pub meets : Meets base (before board k) verdict (itemAfter board k)
+  pub words : List ℕ
+  pub verdicts : List ℕ
+  pub passed : Passed base words verdicts (before board k)
+
+module _ {board index : List ℕ} {n : ℕ} (kept : Kept board index n) where
+  pub item-within : (k : ℕ) → 1 ≤ k → k ≤ n
+      → (itemOf board (entry (before board n) k .place) .end ≤ length board)
+      × (itemOf board (entry (before board n) k .place) .end ≤ placeOf base board n)
+  item-within k s l = let end = entry-end board n k s l in (omega (arith, kept .within), end)
+
+  -- each part has its length
+  pub entry-shaped : (k : ℕ) → 1 ≤ k → k ≤ n → Shaped base (entry (before board n) k .item)
+  unfolding itemOf
+  entry-shaped k s l = rw (entry-item board n k s l) (shaped-at base board _ (item-within k s l .0))
+
+  -- its type is listed, its count fits, its parent and its session stand where they should
+  pub entry-fine : (k : ℕ) → 1 ≤ k → k ≤ n → Fine base (before board n) (entry (before board n) k)
+  entry-fine k s l = fine-at (orderly (kept .passed)) k s (omega (arith, length-history base board n))
+
+  pub entry-met : (k : ℕ) → k < n → Met board k
+  unfolding entryOf
+  entry-met k l =
+      let less : k ≤ n = omega arith in
+      let m = made-at (kept .passed) k (omega (arith, length-history base board n)) in
+      let same = history-take base board n k less in
+      record {
+        verdict = m .verdict;
+        meets = rw (same, entry-made board n k l) at (m .meets);
+        words = m .before .words;
+        verdicts = m .before .verdicts;
+        passed = rw same at (m .before .passed);
+      }
+
+  -- a parent is earlier; genesis has its own number
+  pub entry-parent-earlier : (k : ℕ) → 1 ≤ k → k ≤ n → code (entry (before board n) k .item) ≢ 1 → entry (before board n) k .parent < k
+  unfolding entryOf
+  entry-parent-earlier zero s l q = absurd (not-suc-le-zero s)
+  entry-parent-earlier (suc k) s l q =
+      let later : eqb (code (itemAfter board k)) 1 ≡ false = ne-eqb _ _ (rw (entry-made board n k l) at q) in
+      rw (entry-made board n k l) (omega (arith, parent-bound (before board k) (itemAfter board k) later, length-history base board k))
+
+  pub entry-parent-bound : (k : ℕ) → 1 ≤ k → k ≤ n → (1 ≤ entry (before board n) k .parent) × (entry (before board n) k .parent ≤ k)
+  unfolding entryOf
+  entry-parent-bound zero s l = absurd (not-suc-le-zero s)
+  entry-parent-bound (suc k) s l =
+      let h = before board k in
+      let i = itemAfter board k in
+      let size = length-history base board k in (
+        entry-fine (suc k) s l .parent-some,
+        rw (entry-made board n k l) (by-test (eqb (code i) 1) (λ q. omega (arith, parent-genesis h i q)) (λ q. omega (arith, parent-bound h i q))),
+      )
+
+  -- a session is no later, and is one
+  pub entry-session-bound : (k : ℕ) → 1 ≤ k → k ≤ n → entry (before board n) k .session ≤ k
+  unfolding entryOf
+  entry-session-bound zero s l = absurd (not-suc-le-zero s)
+  entry-session-bound (suc k) s l =
+      let m = entry-met k l in
+      rw (entry-made board n k l) (omega (arith, session-bound (m .meets) (orderly (m .passed)), length-history base board k))
+
+  pub entry-session : (k : ℕ) → 1 ≤ k → k ≤ n → 1 ≤ entry (before board n) k .session
+      → T (typed sessionType (entry (before board n) (entry (before board n) k .session)))
+  entry-session k s l = entry-fine k s l .session-typed

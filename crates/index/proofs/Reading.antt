@@ -1,0 +1,66 @@
+-- What the code's view of an entry says of it: its head, its content words and its address, in the model's terms. Assumes nothing.
+use Prim.Native.Nat.{ℕ, _+_, _≤_, _<_}
+use mathlib.Core.Path.{_≡_, refl, sym, ap, _∙_}
+use mathlib.Core.List.{List}
+use lib.ListN.{getD}
+use lib.Dec.{eqb}
+use Rattle.model.specs.Lists.{part}
+use Rattle.model.specs.Words.{kindOf, countOf, mainKind}
+use Rattle.model.specs.Item as model
+use Rattle.model.specs.Item.{code, word}
+use Rattle.model.specs.History.{Entry, main, entry}
+use Rattle.format.specs.declared.head.Head.{Head}
+use Rattle.format.specs.declared.item.Item.{Item}
+use Rattle.format.specs.Base.{base}
+use Rattle.format.specs.Layout.{headOf, itemOf}
+use Rattle.format.proofs.Places.{head-is, address-is, word-is}
+use Rattle.index.specs.declared.Known.{Known}
+use Rattle.index.specs.Kept.{before, Kept}
+use Rattle.index.specs.Known.{knownOf, IsKnown}
+use Rattle.index.proofs.Items.{entry-item, item-within}
+
+-- an item of the first n, as the code knows it
+pub entry-known : {board index : List ℕ} {n : ℕ} → Kept board index n → (k : ℕ) → 1 ≤ k → k ≤ n
+    → IsKnown board (entry (before board n) k) (knownOf board (entry (before board n) k))
+entry-known {board} {index} {n} kept k s l =
+    record { same = refl; item = entry-item board n k s l; within = item-within kept k s l .0 }
+
+module _ {board : List ℕ} {e : Entry} {r : Known} (is : IsKnown board e r) where
+  pub known-item : r .item ≡ itemOf board (e .place)
+  known-item = ap (λ (k : Known). k .item) (is .same)
+
+  -- the head
+  pub known-head : r .item .head ≡ headOf (e .item .head)
+  known-head =
+      ap (λ (i : Item). i .head) known-item ∙ head-is board (e .place) ∙ ap (λ (i : model.Item). headOf (i .head)) (sym (is .item))
+
+  pub known-code : r .item .head .code ≡ code (e .item)
+  known-code = ap (λ (h : Head). h .code) known-head
+
+  pub known-kind : r .item .head .kind ≡ kindOf (e .item .head)
+  known-kind = ap (λ (h : Head). h .kind) known-head
+
+  pub known-count : r .item .head .count ≡ countOf (e .item .head)
+  known-count = ap (λ (h : Head). h .count) known-head
+
+  pub known-main : eqb (r .item .head .kind) mainKind ≡ main e
+  known-main = ap (λ (k : ℕ). eqb k mainKind) known-kind
+
+  pub known-parent : r .parent ≡ e .parent
+  known-parent = ap (λ (k : Known). k .parent) (is .same)
+
+  pub known-session : r .session ≡ e .session
+  known-session = ap (λ (k : Known). k .session) (is .same)
+
+  -- words of the board
+  pub known-address : part (r .item .address) (base .address) board ≡ e .item .address
+  known-address =
+      ap (λ (i : Item). part (i .address) (base .address) board) known-item
+      ∙ address-is board (e .place)
+      ∙ ap (λ (i : model.Item). i .address) (sym (is .item))
+
+  pub known-word : (k : ℕ) → k < r .item .head .count → getD board (r .item .content + k) 0 ≡ word k (e .item)
+  known-word k l =
+      ap (λ (i : Item). getD board (i .content + k) 0) known-item
+      ∙ sym (word-is board (e .place) k (rw known-item at l))
+      ∙ ap (word k) (sym (is .item))

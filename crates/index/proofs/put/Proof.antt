@@ -1,0 +1,89 @@
+-- `put` meets its contract: its four stores are the row of the item that passes. Assumes nothing.
+use native.Mathlib.Omega.{arith}
+use borrow.Author.Needs.{needs}
+use Rattle.index.proofs.Rows.{Small, small, kept-next}
+use lib.ListN.{length-set}
+use Rattle.index.proofs.put.Statement.{statement}
+use Rattle.index.proofs.put.Tie as tie
+
+stored : (s : tie.Start) → Small (s .args .c) (s .args .mains)
+stored s = small (s .pre .0) (s .args .mains) (s .pre .1)
+
+mul-row : tie.Need-mul-row
+mul-row c = search needs
+
+cast-index : tie.Need-cast-index
+cast-index c = omega (arith, stored (c .before .before .before) .place)
+
+mul-index : tie.Need-mul-index
+mul-index c = search needs
+
+slice-write-index : tie.Need-slice-write-index
+slice-write-index c = search needs
+
+cast-index-2 : tie.Need-cast-index-2
+cast-index-2 c = omega (arith, stored (c .before .before .before .before) .parent)
+
+add-index : tie.Need-add-index
+add-index c = search needs
+
+mul-index-2 : tie.Need-mul-index-2
+mul-index-2 c = search needs
+
+slice-write-index-2 : tie.Need-slice-write-index-2
+slice-write-index-2 c = simp length-set (omega arith)
+
+session-word-requires : tie.Need-session-word-requires
+session-word-requires c κs = stored (c .before .before .before .before) .session
+
+add-index-2 : tie.Need-add-index-2
+add-index-2 c = search needs
+
+mul-index-3 : tie.Need-mul-index-3
+mul-index-3 c = search needs
+
+slice-write-index-3 : tie.Need-slice-write-index-3
+slice-write-index-3 c = simp length-set (omega arith)
+
+cast-index-3 : tie.Need-cast-index-3
+cast-index-3 c = omega (arith, stored (c .before .before .before .before .before) .mains)
+
+add-index-3 : tie.Need-add-index-3
+add-index-3 c = search needs
+
+mul-index-4 : tie.Need-mul-index-4
+mul-index-4 c = search needs
+
+slice-write-index-4 : tie.Need-slice-write-index-4
+slice-write-index-4 c = simp length-set (omega arith)
+
+same-length : tie.Need-same-length
+same-length c = simp length-set
+
+returns : tie.Need-returns
+returns c =
+    let s = c .before .before .before .before .before in
+    kept-next (s .pre .0) _ _ (c .session-word .ensures) (s .pre .1)
+
+pub put-spec : {M : Type 1} → statement M
+put-spec =
+    tie.close
+    (tie.spec
+    mul-row
+    cast-index
+    mul-index
+    slice-write-index
+    cast-index-2
+    add-index
+    mul-index-2
+    slice-write-index-2
+    session-word-requires
+    add-index-2
+    mul-index-3
+    slice-write-index-3
+    cast-index-3
+    add-index-3
+    mul-index-4
+    slice-write-index-4
+    same-length
+    returns)
