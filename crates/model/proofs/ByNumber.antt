@@ -9,7 +9,8 @@ use Rattle.model.specs.Refusal.{emptyBoard, truncated, tableFull}
 use Rattle.model.specs.Format.{Format}
 use Rattle.model.specs.Audit.{Outcome, unread, refused, audit}
 use Rattle.model.specs.Reasons.{FirstOf, startReasons, EndsAt, ClosesAt, HeadAt, itemReasons, closingReasons, Reached, Answers, atStart, atEmpty, atEnd, atItem, atClosing}
-use Rattle.model.proofs.Reasons.{every-first, answers}
+use Rattle.model.proofs.FirstReason.{every-first}
+use Rattle.model.proofs.Reasons.{answers}
 
 module _ (f : Format) (ws vs : List ℕ) (index ballots : ℕ) where
   abbrev Answer : Outcome → Type 0

@@ -4,15 +4,14 @@ use Prim.Native.Nat.{ℕ, zero, suc, _+_, _*_, _≤_, _<_, zero-le}
 use native.Mathlib.Nat.{not-suc-le-zero}
 use native.Mathlib.Decide.{decLe}
 use native.Mathlib.Omega.{arith}
-use mathlib.Core.Path.{_≡_, refl, sym, ap, subst, _∙_}
+use mathlib.Core.Path.{_≡_, refl, sym, ap}
 use mathlib.Core.Logic.{_↔_, by-cases}
 use mathlib.Core.Option.{Option, none, some}
-use mathlib.Core.List.{List, [], _∷_, _++_, append-assoc}
+use mathlib.Core.List.{List, _++_, append-assoc}
 use lib.ListN.{length, getD, take, drop, take-append-drop, length-append}
 use lib.Seq.{drop-at, length-take-le}
-use lib.Dec.{T}
 use Rattle.model.specs.Lists.{any, part}
-use Rattle.model.specs.Words.{countOf}
+use Rattle.model.specs.Words.{countOf, closingKind}
 use Rattle.model.specs.Format.{Format, verdictSize}
 use Rattle.model.specs.Item.{Item, itemAt, itemLength, behind, wordsOf}
 use Rattle.model.specs.Types.{Row, rowOf}
@@ -26,13 +25,14 @@ use Rattle.model.proofs.Parsing.{length-words, item-here, shaped-at, wo
 use Rattle.model.proofs.Table.{no-closing}
 use Rattle.model.proofs.Entries.{orderly}
 use Rattle.model.proofs.Keys.{verdict-words, length-verdicts}
-use Rattle.model.proofs.Checks.{AllMet, meets, met}
+use Rattle.model.proofs.Checks.{meets, met}
 use Rattle.model.proofs.Unchecked.{length-history, passed-history}
 
 module _ (f : Format) (ws vs : List ℕ) (k : ℕ) where
   abbrev here : ℕ
   here = placeOf f ws k
 
+  -- item k + 1 is whole, and meets the rules after the first k
   abbrev Meeting : Type 0
   Meeting = (behind f ws here ≤ length ws) × Meets f (history f ws k) (verdictOf f ws vs (history f ws k)) (itemAt f ws here)
 
@@ -44,6 +44,7 @@ module _ (f : Format) (ws vs : List ℕ) (k : ℕ) where
       let fit : behind f ws here ≤ length ws = omega (arith, tests) in
       (fit, meets f _ _ (itemAt f ws here) (record { row = r; found = q }) counted (shaped-at f ws here fit) rules)
 
+  -- it does where no reason applies to it, and only there
   none-meets : NoneOf (itemReasons f ws vs k) → Meeting
   none-meets = meets-row (rowOf f (getD ws here 0)) refl
 
@@ -52,10 +53,10 @@ module _ (f : Format) (ws vs : List ℕ) (k : ℕ) where
   meets-none small long (fit, m) =
       rw (m .listed .found) (simp (neither, not-not) (omega (arith, tests), (tt, (m .counted, (omega (arith, tests), met f _ _ (itemAt f ws here) m long)))))
 
+  -- the first k items are in the words, and meet the rules
   abbrev Passing : Type 0
   Passing = (here ≤ length ws) × Passed f (take here ws) (take (verdictSize * k) vs) (history f ws k)
 
--- the words and the verdict words of the first k items
 passing : (f : Format) (ws vs : List ℕ) (k : ℕ) → PassedFirst f ws vs k → Passing f ws vs k
 unfolding placeOf history
 passing f ws vs zero all = (zero-le, Passed.none)
@@ -70,24 +71,26 @@ passing f ws vs (suc k) all =
 
 -- an item that meets the rules behind those that were passed
 module _ {f : Format} {u vu v : List ℕ} {h : History} {i : Item} (p : Passed f u vu h) (m : Meets f h v i) (rest vrest : List ℕ) where
-  abbrev ws : List ℕ
-  ws = u ++ (wordsOf i ++ rest)
+  abbrev words : List ℕ
+  words = u ++ (wordsOf i ++ rest)
 
-  abbrev vs : List ℕ
-  vs = vu ++ (v ++ vrest)
+  abbrev verdicts : List ℕ
+  verdicts = vu ++ (v ++ vrest)
 
-  next-passes : length h < itemLimit → HeadAt f ws (length h) × NoneOf (itemReasons f ws vs (length h))
+  next-passes : length h < itemLimit → HeadAt f words (length h) × NoneOf (itemReasons f words verdicts (length h))
   unfolding itemAt itemLength
   next-passes small =
       let (same, place) = passed-history p (wordsOf i ++ rest) in
       let nine : length v ≡ verdictSize = verdict-words m (orderly p) in
-      let read : itemAt f ws (length u) ≡ i = item-here f u i rest (m .shaped) in
-      let head : getD ws (length u) 0 ≡ i .head = ap (λ (j : Item). j .head) read in
-      let verdict : part (verdictSize * length h) verdictSize vs ≡ v = cut _ vs (drop-at vu (v ++ vrest) _ (length-verdicts p)) nine .0 in
-      let whole : length u + itemLength f (countOf (i .head)) ≤ length ws = simp length-append (omega (arith, length-words f i (m .shaped))) in
-      let meeting : Meeting f ws vs (length h) = rw (← same, place, read, verdict, head) (whole, m) in
-      ((rw place (omega arith), rw (place, head) (ne→neqb _ 15 (no-closing (m .listed)))), meets-none f ws vs (length h) small (rw (← same, verdict) nine) meeting)
+      let read : itemAt f words (length u) ≡ i = item-here f u i rest (m .shaped) in
+      let head : getD words (length u) 0 ≡ i .head = ap (λ (j : Item). j .head) read in
+      let verdict : part (verdictSize * length h) verdictSize verdicts ≡ v = cut _ verdicts (drop-at vu (v ++ vrest) _ (length-verdicts p)) nine .0 in
+      let whole : length u + itemLength f (countOf (i .head)) ≤ length words = simp length-append (omega (arith, length-words f i (m .shaped))) in
+      let meeting : Meeting f words verdicts (length h) = rw (← same, place, read, verdict, head) (whole, m) in
+      let starts : HeadAt f words (length h) = (rw place (omega arith), rw (place, head) (ne→neqb _ closingKind (no-closing (m .listed)))) in
+      (starts, meets-none f words verdicts (length h) small (rw (← same, verdict) nine) meeting)
 
+-- items that meet the rules pass, whatever stands behind them
 passed-first : {f : Format} {u vu : List ℕ} {h : History} → Passed f u vu h → (rest vrest : List ℕ) → length h ≤ itemLimit
     → PassedFirst f (u ++ rest) (vu ++ vrest) (length h)
 passed-first Passed.none rest vrest few j l = absurd (not-suc-le-zero l)

@@ -4,74 +4,27 @@ use Prim.Native.Nat.{ℕ, zero, suc, _+_, _*_, _≤_, _<_}
 use native.Mathlib.Nat.{not-suc-le-zero}
 use native.Mathlib.Omega.{arith}
 use native.Mathlib.Decide.{decLe}
-use mathlib.Core.Path.{_≡_, refl, sym, ap, subst, _∙_}
+use mathlib.Core.Path.{_≡_, refl, sym, subst, _∙_}
 use mathlib.Core.Logic.{_≢_, _↔_, by-cases}
-use mathlib.Core.Bool.{Bool, true, not}
+use mathlib.Core.Bool.{not}
 use mathlib.Core.Option.{Option, none, some}
-use mathlib.Core.List.{List, [], _∷_, _++_, map}
+use mathlib.Core.List.{List, [], _∷_, map}
 use lib.ListN.{length, getD}
-use lib.Dec.{T, eqb, leb, ltb}
+use lib.Dec.{eqb, leb, ltb}
 use borrow.Author.Tests.{eqb-true, eqb-false}
 use Rattle.model.specs.Lists.{if_then_else_, any}
 use Rattle.model.specs.Words.{isClosing}
 use Rattle.model.specs.Refusal.{noFault, tooLarge, emptyBoard, truncated}
 use Rattle.model.specs.Format.{Format}
-use Rattle.model.specs.Types.{Row, rowOf, fits}
-use Rattle.model.specs.History.{History, placeOf, history}
+use Rattle.model.specs.Types.{Row, rowOf}
+use Rattle.model.specs.History.{placeOf, history}
 use Rattle.model.specs.Counted.{counted}
 use Rattle.model.specs.Audit.{Outcome, unread, refused, accepted, Check, firstUnmet, checks, faultIn, fault, closing, judged, items, audit, itemLimit, isTooLarge, isShort, isEmpty, ballotRow, closingOk}
-use Rattle.model.specs.Reasons.{Reason, NoneOf, FirstOf, startReasons, listedWith, EndsAt, ClosesAt, HeadAt, itemReasons, closingReasons, Reached, Answers, atStart, atEmpty, atEnd, atItem, atClosing, acceptance}
-use Rattle.model.proofs.Tests.{tests, by-test, passes, neither, if-yes, if-no, by-if}
-use Rattle.model.proofs.Lists.{Every}
+use Rattle.model.specs.Reasons.{Reason, NoneOf, FirstOf, startReasons, listedWith, ClosesAt, HeadAt, itemReasons, closingReasons, Reached, Answers, atStart, atEmpty, atEnd, atItem, atClosing, acceptance}
+use Rattle.model.proofs.Tests.{tests, by-test, passes, neither, if-yes, if-no}
+use Rattle.model.proofs.FirstReason.{firstNumber, by-first, none-number, first-number, every-first}
 use Rattle.model.proofs.Unchecked.{length-history}
 use Rattle.model.proofs.Steps.{itemsFrom, judged-refused, items-start, items-ended, items-closing, items-full, items-refused, items-passed}
-
--- ---- the first reason that applies
-
--- its number, 0 where none applies
-unfoldable firstNumber : List Reason → ℕ
-unfolding if_then_else_
-firstNumber [] = noFault
-firstNumber (r ∷ rs) = if r .applies then r .number else firstNumber rs
-
--- none applies, or one is the first
-by-first : {X : Type 0} (rs : List Reason) → (NoneOf rs → X) → ((n : ℕ) → FirstOf rs n → X) → X
-unfolding any
-by-first [] unmet found = unmet tt
-by-first (r ∷ rs) unmet found =
-    by-test (r .applies)
-    (λ q. found (r .number) (record { earlier = []; reason = r; later = rs; listed = refl; noEarlier = tt; applies = rw q tt; number = refl }))
-    (λ q. by-first rs (λ u. unmet (rw q u)) λ n s. found n (record {
-      earlier = r ∷ s .earlier;
-      reason = s .reason;
-      later = s .later;
-      listed = ap (r ∷_) (s .listed);
-      noEarlier = rw q (s .noEarlier);
-      applies = s .applies;
-      number = s .number;
-    }))
-
-none-number : (rs : List Reason) → NoneOf rs → firstNumber rs ≡ noFault
-unfolding any firstNumber
-none-number [] u = refl
-none-number (r ∷ rs) u = by-test (r .applies) (λ q. absurd (rw q at u)) (λ q. rw q (none-number rs (rw q at u)))
-
-number-append : (es : List Reason) (r : Reason) (rs : List Reason) → NoneOf es → T (r .applies) → firstNumber (es ++ (r ∷ rs)) ≡ r .number
-unfolding any firstNumber
-number-append [] r rs u t = if-yes (r .applies) _ _ t
-number-append (e ∷ es) r rs u t = by-test (e .applies) (λ q. absurd (rw q at u)) (λ q. rw q (number-append es r rs (rw q at u) t))
-
-first-number : {rs : List Reason} {n : ℕ} → FirstOf rs n → firstNumber rs ≡ n
-first-number s = rw (s .listed) (number-append (s .earlier) (s .reason) (s .later) (s .noEarlier) (s .applies) ∙ s .number)
-
-every-middle : {A : Type 0} (P : A → Type 0) (xs : List A) (y : A) (ys : List A) → Every P (xs ++ (y ∷ ys)) → P y
-every-middle P [] y ys all = all .0
-every-middle P (x ∷ xs) y ys all = every-middle P xs y ys (all .1)
-
--- what holds of every number holds of the first
-pub every-first : (P : ℕ → Type 0) {rs : List Reason} {n : ℕ} → Every (λ r. P (r .number)) rs → FirstOf rs n → P n
-every-first P all s =
-    rw (s .number) at (every-middle (λ r. P (r .number)) (s .earlier) (s .reason) (s .later) (rw (s .listed) at all))
 
 -- ---- an item's fault is its first reason's number
 

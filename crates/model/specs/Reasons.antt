@@ -75,7 +75,8 @@ module _ (f : Format) (ws : List ℕ) (k : ℕ) where
   HeadAt = (placeOf f ws k < length ws) × T (not (isClosing (getD ws (placeOf f ws k) 0)))
 
 module _ (f : Format) (ws vs : List ℕ) (k : ℕ) where
-  -- "item by item: the item limit, 5, 6, 4, then 7 to 16 in order"
+  -- "item by item: the item limit, 5, 6, 4, then 7 to 16 in order", of the item there. Each condition stands alone: what it asks of an item
+  -- that is not listed or not whole does not matter, since 5 or 4 comes first.
   unfoldable pub itemReasons : List Reason
   itemReasons =
       let p = placeOf f ws k in
@@ -111,25 +112,24 @@ module _ (f : Format) (ws vs : List ℕ) (k : ℕ) where
 abbrev pub PassedFirst : Format → List ℕ → List ℕ → ℕ → Type 0
 PassedFirst f ws vs k = (j : ℕ) → j < k → HeadAt f ws j × NoneOf (itemReasons f ws vs j)
 
--- they do, and there was nothing to refuse before them
-pub record Reached (f : Format) (ws vs : List ℕ) (index ballots k : ℕ) : Type 0 where
-  pub started : NoneOf (startReasons ws index ballots)
-  pub passed : PassedFirst f ws vs k
+-- ---- the answers, with so many words in the index table and in the ballot table
 
--- the answers, with so many words in the index table and in the ballot table
-pub data Answers (f : Format) (ws vs : List ℕ) (index ballots : ℕ) : Outcome → Type 0 where
-  -- 1's word limit, or 2
-  atStart : (n : ℕ) → FirstOf (startReasons ws index ballots) n → n ≢ emptyBoard → Answers f ws vs index ballots (unread n)
-  -- 3
-  atEmpty : FirstOf (startReasons ws index ballots) emptyBoard → Answers f ws vs index ballots (refused emptyBoard 0)
-  -- 4, "no closing word"
-  atEnd : (k : ℕ) → Reached f ws vs index ballots k → EndsAt f ws k → Answers f ws vs index ballots (refused truncated k)
-  -- 1's item limit, 5, 6, 4, or 7 to 16
-  atItem : (n k : ℕ) → Reached f ws vs index ballots k → HeadAt f ws k → FirstOf (itemReasons f ws vs k) n
-      → Answers f ws vs index ballots (refused n k)
-  -- 18, or 17
-  atClosing : (n k : ℕ) → Reached f ws vs index ballots k → ClosesAt f ws k → FirstOf (closingReasons f ws vs k ballots) n
-      → Answers f ws vs index ballots (refused n k)
-  -- "Acceptance gives 0"
-  acceptance : (k : ℕ) → Reached f ws vs index ballots k → ClosesAt f ws k → NoneOf (closingReasons f ws vs k ballots)
-      → Answers f ws vs index ballots (accepted (history f ws k))
+module _ (f : Format) (ws vs : List ℕ) (index ballots : ℕ) where
+  -- there was nothing to refuse before the items, and the first k of them pass
+  pub record Reached (k : ℕ) : Type 0 where
+    pub started : NoneOf (startReasons ws index ballots)
+    pub passed : PassedFirst f ws vs k
+
+  pub data Answers : Outcome → Type 0 where
+    -- 1's word limit, or 2
+    atStart : (n : ℕ) → FirstOf (startReasons ws index ballots) n → n ≢ emptyBoard → Answers (unread n)
+    -- 3
+    atEmpty : FirstOf (startReasons ws index ballots) emptyBoard → Answers (refused emptyBoard 0)
+    -- 4, "no closing word"
+    atEnd : (k : ℕ) → Reached k → EndsAt f ws k → Answers (refused truncated k)
+    -- 1's item limit, 5, 6, 4, or 7 to 16
+    atItem : (n k : ℕ) → Reached k → HeadAt f ws k → FirstOf (itemReasons f ws vs k) n → Answers (refused n k)
+    -- 18, or 17
+    atClosing : (n k : ℕ) → Reached k → ClosesAt f ws k → FirstOf (closingReasons f ws vs k ballots) n → Answers (refused n k)
+    -- "Acceptance gives 0"
+    acceptance : (k : ℕ) → Reached k → ClosesAt f ws k → NoneOf (closingReasons f ws vs k ballots) → Answers (accepted (history f ws k))
