@@ -1,2 +1,3 @@
 -- Laws of the ballot table.
 pub mod Table
+pub mod Casts

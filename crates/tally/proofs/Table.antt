@@ -7,7 +7,7 @@ use native.Mathlib.Nat.{add-zero}
 use native.Mathlib.Numerals.{add-one}
 use native.Mathlib.Omega.{arith}
 use lib.ListN.{length, getD, take, drop, replicate, length-append, length-replicate, replicate-append-replicate, drop-of-length-le}
-use lib.Seq.{sets, sets-eq, take-append-seam, drop-append-add, drop-append-seam, getD-append-add, take-all, drop-length, drop-cons, take-suc}
+use lib.Seq.{sets, sets-eq, length-sets, take-append-seam, drop-append-add, drop-append-seam, getD-append-add, take-all, drop-length, drop-cons, take-suc}
 use lib.Dec.{eqb}
 use borrow.Author.Tests.{eq-eqb, ne-eqb}
 use Rattle.model.specs.Lists.{if_then_else_, keep}
@@ -16,7 +16,7 @@ use Rattle.model.specs.Audit.{ballotRow}
 use Rattle.model.specs.Report.{ballotRows, filled}
 use Rattle.model.proofs.Tests.{by-test}
 use Rattle.model.proofs.Lists.{keep-append}
-use Rattle.model.proofs.Tables.{length-ballotRows, ballotRows-append, getD-ballotRows, getD-filled}
+use Rattle.model.proofs.Tables.{length-ballotRows, ballotRows-append, getD-ballotRows, getD-filled, filled-append}
 use Rattle.tally.specs.Rows.{HoldsRows, rowWord, cleared, rowKept, numberKept}
 
 abbrev zeros : ℕ → List ℕ
@@ -146,6 +146,20 @@ dropped-all voter n xs ballots kept rows e le room m d =
     record {
       rows = rw (all, none) at (d .words) ∙ rw (replicate-append-replicate, free, e);
       number = number;
+    }
+
+-- ---- one row more
+
+pub holds-put : (ballots : List ℕ) (n : ℕ) (xs : List Vote) (v : Vote) → HoldsRows ballots n xs → ballotRow * n + ballotRow ≤ length ballots
+    → HoldsRows (sets ballots (ballotRow * n) (v .ballot ∷ v .voter ∷ v .weight ∷ [])) (n + 1) (xs ++ (v ∷ []))
+unfolding ballotRows
+holds-put ballots n xs v t fits =
+    let row = v .ballot ∷ v .voter ∷ v .weight ∷ [] in
+    let size : length (ballotRows xs) ≡ ballotRow * n = length-ballotRows xs ∙ ap (ballotRow *_) (sym (t .number)) in
+    let more = filled-append (length ballots) (ballotRows xs) row (omega arith) in
+    record {
+      rows = rw (length-sets ballots (ballotRow * n) row, ballotRows-append xs (v ∷ []), more, size) (ap (λ (b : List ℕ). sets b (ballotRow * n) row) (t .rows));
+      number = rw (length-append xs (v ∷ [])) (omega (arith, t .number));
     }
 
 -- ---- a row looked at

@@ -3,11 +3,50 @@ ghost use mathlib.Core.Path.{_≡_};
 ghost use mathlib.Core.List.{List};
 ghost use Prim.Native.Nat.{ℕ, _+_, _*_, _≤_};
 ghost use lib.ListN.{length};
-ghost use Rattle.model.specs.Counted.{Vote, totalWeight};
+ghost use lib.Dec.{T};
+ghost use Rattle.model.specs.History.{entry, main, mainNumber};
+ghost use Rattle.model.specs.Counted.{Vote, counted, totalWeight};
 ghost use Rattle.model.specs.Audit.{ballotRow, itemLimit};
+ghost use Rattle.index.specs.Kept.{before, Kept};
+ghost use Rattle.index.specs.Known.{Passing};
+ghost use Rattle.state.specs.Stands.{Stands};
 ghost use Rattle.tally.specs.Rows.{HoldsRows};
+ghost use Rattle.tally.specs.Tallied.{Tallied};
+use format::head::Head;
+use format::limit::Limit;
+use index::Known;
+use state::State;
 
 pub mod rows;
+
+// The main number of item k, which is a main item: one more than the main items before it.
+fn main_number(board: &[u32], index: &[u32], count: usize, k: usize) -> u32
+    requires { ⌜ Kept (now board) (now index) count ⌝ }
+    requires { ⌜ (1 ≤ k) × (k ≤ count) × (T (main (entry (before (now board) count) k))) ⌝ }
+    ensures { λ r. ⌜ r ≡ mainNumber (before (now (board .entry)) count) k ⌝ }
+{
+    let row = Limit::INDEX_ROW * (k - 1);
+    index[row + 3] + 1
+}
+
+// The ballot table with the item after the first ones, which passes. A cast drops its voter's row and puts its own last: the main number
+// of the ballot, and the voter and the weight of the cast's session. Returns how many rows there are then.
+pub fn after(board: &[u32], index: &[u32], ballots: &mut [u32], s: State, c: Known) -> usize
+    requires { ⌜ (Passing (now board) (now index) (s .items) c) × (Stands (now board) s) × (Tallied (now board) (now ballots) (s .items)) ⌝ }
+    ensures { λ r. ⌜ (Tallied (now (board .entry)) (now (ballots .exit)) (s .items + 1)) × (r ≡ length (counted (before (now (board .entry)) (s .items + 1)))) ⌝ }
+{
+    if c.item.head.code != Head::CAST {
+        return s.ballots;
+    }
+    let session = index::entry(board, index, s.items, c.session);
+    let at = session.item.content;
+    let voter = board[at];
+    let weight = board[at + 1];
+    let ballot = main_number(board, index, s.items, c.parent);
+    let kept = rows::without_voter(ballots, s.ballots, voter);
+    rows::put_row(ballots, kept, ballot, voter, weight);
+    kept + 1
+}
 
 // The total weight of the rows.
 pub fn total_weight(ballots: &[u32], rows: usize) -> u64

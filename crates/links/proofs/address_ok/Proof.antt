@@ -1,4 +1,4 @@
--- `links::address_ok` meets its contract. Assumes nothing.
+-- `address_ok` meets its contract: the slice up to the signature is the hashed words. Assumes nothing.
 use mathlib.Core.Path.{_∙_}
 use lib.ListN.{length-take, length-drop}
 use Rattle.links.proofs.Checks.{places, address-same}

@@ -1,4 +1,4 @@
--- `links::earlier` meets its contract. Assumes nothing.
+-- `earlier` meets its contract. Assumes nothing.
 use borrow.Author.Tests.{eq-eqb, ne-eqb}
 use Rattle.model.specs.Lists.{if_then_else_}
 use Rattle.links.proofs.earlier.Statement.{statement}

@@ -1,4 +1,4 @@
--- `links::parent_ok` meets its contract. Assumes nothing.
+-- `parent_ok` meets its contract, rule by rule. Assumes nothing.
 use mathlib.Core.Path.{_∙_}
 use Rattle.state.proofs.At.{at-places}
 use Rattle.links.proofs.Checks.{parent-zeros, parent-config, no-config, parent-typed, no-typed, typed-in}

@@ -1,4 +1,4 @@
--- `links::previous_ok` meets its contract. Assumes nothing.
+-- `previous_ok` meets its contract: each way out compares what the model compares. Assumes nothing.
 use mathlib.Core.Path.{_∙_}
 use Rattle.state.proofs.At.{at-places, last-in-range}
 use Rattle.links.proofs.Checks.{previous-hidden, previous-first, previous-main, known-places}

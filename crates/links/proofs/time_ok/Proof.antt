@@ -1,4 +1,4 @@
--- `links::time_ok` meets its contract. Assumes nothing.
+-- `time_ok` meets its contract: without an earlier item every time will do. Assumes nothing.
 use mathlib.Core.Path.{sym, _∙_}
 use Rattle.state.proofs.At.{at-places}
 use Rattle.links.proofs.Checks.{earlier-in, time-none, time-later, known-places}

@@ -59,8 +59,7 @@ loop-less c = search needs
 loop-again : tie.Need-loop-again Inv-loop μ-loop
 loop-again c =
     let l = c .before .before .loop in
-    let a = c .before .before .before .args in
-    (
+    let a = c .before .before .before .args in (
       omega arith,
       omega (arith, c .shared-slice-known .given (3 * c .before .before .loop .k + 2)),
       λ xs t. weight-more (a .ballots .now) (a .rows) xs t (l .k) (l .sum) (omega arith) (l .inv .2 xs t),

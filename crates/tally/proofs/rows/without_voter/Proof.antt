@@ -42,8 +42,7 @@ loop-again c =
     let l = c .before .before .before .before .before .loop in
     let a = c .before .before .before .before .before .before .before .args in
     let called = c .before .before .keep-row in
-    let few = number-few (l .ballots) (l .kept) (l .k) (a .voter) (l .inv .0) in
-    (
+    let few = number-few (l .ballots) (l .kept) (l .k) (a .voter) (l .inv .0) in (
       rw (called .ensures .1) few,
       search needs,
       called .kept .0 ∙ l .inv .2,
