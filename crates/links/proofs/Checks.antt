@@ -10,12 +10,12 @@ use lib.Seq.{take-all}
 use lib.Dec.{eqb, leb, lit<}
 use borrow.Author.Tests.{eq-eqb, ne-eqb, eqb-false, le-leb}
 use Rattle.model.specs.Lists.{if_then_else_, part}
-use Rattle.model.specs.Words.{kindOf, codeOf, countOf, pair, sameWords}
+use Rattle.model.specs.Words.{codeOf, countOf, pair, sameWords}
 use Rattle.model.specs.Item as model
 use Rattle.model.specs.Item.{itemAt, itemLength, hashedLength, code, isMain, time}
 use Rattle.model.specs.Types.{zeros, latestConfig, ofType, Listed}
 use Rattle.model.specs.Links.{addressOk, previousOk, parentOk, timeOk}
-use Rattle.model.specs.History.{Entry, entry, itemNo, parentNumber}
+use Rattle.model.specs.History.{Entry, entry, itemNo}
 use Rattle.model.proofs.Tests.{by-test}
 use Rattle.model.proofs.Table.{main-code, genesis-law, asksNone}
 use Rattle.model.proofs.Numbers.{entry-none}

@@ -2,14 +2,14 @@
 use Prim.Native.Nat.{ℕ, zero, suc, _+_, _-_, _*_, _≤_, _<_}
 use native.Mathlib.Numerals.{add-one}
 use native.Mathlib.Omega.{arith}
-use mathlib.Core.Path.{_≡_, refl, sym, ap, _∙_}
-use mathlib.Core.Bool.{Bool, true, false, not}
+use mathlib.Core.Path.{_≡_, sym, ap, _∙_}
+use mathlib.Core.Bool.{false, not}
 use mathlib.Core.List.{List, [], _∷_, _++_}
-use lib.ListN.{length, getD, take, length-append}
+use lib.ListN.{length, getD, take}
 use lib.Seq.{sets, length-sets, length-take-le, take-suc}
-use lib.Dec.{T, eqb, eqb→eq, lit<}
-use borrow.Author.Tests.{eq-eqb, ne-eqb, le-leb}
-use Rattle.model.specs.Lists.{count, keep}
+use lib.Dec.{T, eqb, eqb→eq}
+use borrow.Author.Tests.{ne-eqb, le-leb}
+use Rattle.model.specs.Lists.{count}
 use Rattle.model.specs.Item.{itemLength, code, isMain, word}
 use Rattle.model.specs.Types.{inSession}
 use Rattle.model.specs.History.{History, Entry, entry, itemNo, absent, main, mainNumber, typed, placeOf, history, entryOf, parentNumber, sessionNumber}
@@ -168,9 +168,14 @@ module _ {board index ballots : List ℕ} {s : State} {c : Known} (p : Passing b
   module _ (v r : ℕ) (l : List ℕ) (size : length l ≡ length ballots) (kept : HoldsRows l r (without v (counted (before board (s .items))))) where
     pub rows-few : r < itemLimit
     rows-few =
-        omega (arith, kept .number, few, p .more,
-        count-keep (λ x. not (eqb (x .voter) v)) (λ x. x) (counted (before board (s .items))),
-        count-few (λ x. not (eqb (x .voter) v)) (counted (before board (s .items))))
+        omega (
+          arith,
+          kept .number,
+          few,
+          p .more,
+          count-keep (λ x. not (eqb (x .voter) v)) (λ x. x) (counted (before board (s .items))),
+          count-few (λ x. not (eqb (x .voter) v)) (counted (before board (s .items))),
+        )
 
     pub row-fits : ballotRow * r + ballotRow ≤ length l
     row-fits = omega (arith, rows-few, t .room)
@@ -181,8 +186,7 @@ module _ {board index ballots : List ℕ} {s : State} {c : Known} (p : Passing b
     after-cast cast voter ballot weight next b w e =
         let put = holds-put l r (without v (counted (before board (s .items)))) (vote p) kept row-fits in
         let same : next ≡ sets l (ballotRow * r) (vote p .ballot ∷ vote p .voter ∷ vote p .weight ∷ []) = e ∙ rw (b, voter, w) in
-        let counted-is : counted (before board (s .items + 1)) ≡ without v (counted (before board (s .items))) ++ (vote p ∷ []) = counted-more p cast ∙ rw (← voter) in
-        (
+        let counted-is : counted (before board (s .items + 1)) ≡ without v (counted (before board (s .items))) ++ (vote p ∷ []) = counted-more p cast ∙ rw (← voter) in (
           record { rows = rw (counted-is, same) (put .rows); room = rw (same, length-sets l (ballotRow * r) _) (omega (arith, t .room)) },
           rw counted-is (put .number),
         )

@@ -5,8 +5,9 @@ ghost use Prim.Native.Nat.{ℕ, _+_, _*_, _≤_};
 ghost use lib.ListN.{length};
 ghost use lib.Dec.{T};
 ghost use Rattle.model.specs.History.{entry, main, mainNumber};
-ghost use Rattle.model.specs.Counted.{Vote, counted, totalWeight};
+ghost use Rattle.model.specs.Counted.{Vote, counted, contents, totalWeight};
 ghost use Rattle.model.specs.Audit.{ballotRow, itemLimit};
+ghost use Rattle.sha256.specs.Fips.{sha256Words};
 ghost use Rattle.index.specs.Kept.{before, Kept};
 ghost use Rattle.index.specs.Known.{Passing};
 ghost use Rattle.state.specs.Stands.{Stands};
@@ -15,6 +16,7 @@ ghost use Rattle.tally.specs.Tallied.{Tallied};
 use format::head::Head;
 use format::limit::Limit;
 use index::Known;
+use sha256::Hash;
 use state::State;
 
 pub mod rows;
@@ -48,6 +50,25 @@ pub fn after(board: &[u32], index: &[u32], ballots: &mut [u32], s: State, c: Kno
     kept + 1
 }
 
+// The fingerprint of the counted ballots: SHA-256 over their whole contents, read from the board in the order of the rows.
+pub fn fingerprint(board: &[u32], index: &[u32], ballots: &[u32], s: State) -> [u32; 8]
+    requires { ⌜ (Kept (now board) (now index) (s .items)) × (Stands (now board) s) × (Tallied (now board) (now ballots) (s .items)) ⌝ }
+    ensures { λ r. ⌜ r ≡ sha256Words (contents (counted (before (now (board .entry)) (s .items)))) ⌝ }
+{
+    let mut hash = Hash::new();
+    let mut k = 0;
+    while k < s.ballots {
+        let number = words::wide(ballots[Limit::BALLOT_ROW * k]);
+        let item = lookup::main_entry(board, index, s.items, number);
+        let ballot = index::entry(board, index, s.items, item).item;
+        let from = ballot.content;
+        let to = ballot.parent;
+        hash = hash.words(&board[from..to]);
+        k += 1;
+    }
+    hash.finish()
+}
+
 // The total weight of the rows.
 pub fn total_weight(ballots: &[u32], rows: usize) -> u64
     requires { ⌜ (ballotRow * rows ≤ length (now ballots)) × (rows ≤ itemLimit) ⌝ }
@@ -56,7 +77,7 @@ pub fn total_weight(ballots: &[u32], rows: usize) -> u64
     let mut sum = 0;
     let mut k = 0;
     while k < rows {
-        sum += ballots[3 * k + 2] as u64;
+        sum += ballots[Limit::BALLOT_ROW * k + 2] as u64;
         k += 1;
     }
     sum

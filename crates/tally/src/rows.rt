@@ -7,13 +7,14 @@ ghost use lib.Seq.{sets};
 ghost use Rattle.model.specs.Counted.{Vote, without};
 ghost use Rattle.model.specs.Audit.{ballotRow};
 ghost use Rattle.tally.specs.Rows.{HoldsRows, rowKept, numberKept};
+use format::limit::Limit;
 
 // Writes a row behind the first ones.
 pub fn put_row(ballots: &mut [u32], rows: usize, ballot: u32, voter: u32, weight: u32)
     requires { ⌜ ballotRow * rows + ballotRow ≤ length (now ballots) ⌝ }
     ensures { λ _. ⌜ now (ballots .exit) ≡ sets (now (ballots .entry)) (ballotRow * rows) (ballot ∷ voter ∷ weight ∷ []) ⌝ }
 {
-    let at = 3 * rows;
+    let at = Limit::BALLOT_ROW * rows;
     ballots[at] = ballot;
     ballots[at + 1] = voter;
     ballots[at + 2] = weight;
@@ -26,7 +27,7 @@ fn keep_row(ballots: &mut [u32], kept: usize, k: usize, voter: u32) -> usize
     ensures ballots { λ r. ⌜ now (ballots .exit) ≡ rowKept (now (ballots .entry)) kept k voter ⌝ }
     ensures number { λ r. ⌜ r ≡ numberKept (now (ballots .entry)) kept k voter ⌝ }
 {
-    let at = 3 * k;
+    let at = Limit::BALLOT_ROW * k;
     let ballot = ballots[at];
     let other = ballots[at + 1];
     let weight = ballots[at + 2];

@@ -1,65 +1,47 @@
+-- `after` meets its contract: what is read for a cast's row is what the model says of its vote. Assumes nothing.
 use mathlib.Core.Path.{_≡_, _∙_}
 use Rattle.tally.proofs.Casts.{content-in, session-in, session-words, ballot-in, voter-is, weight-is, ballot-is, holds, rows-fit, after-same, rows-few, row-fits, after-cast}
 use native.Mathlib.Omega.{arith}
 use borrow.Author.Needs.{needs}
 use Rattle.tally.proofs.after.Statement.{statement}
 use Rattle.tally.proofs.after.Tie as tie
-use Rattle.tally.proofs.after.Reads as reads
-use Rattle.tally.proofs.after.Lts as lts
-use Rattle.index.proofs.entry.Reads as entry-reads
-use Rattle.tally.proofs.main_number.Reads as main-number-reads
-use Rattle.tally.proofs.rows.put_row.Reads as put-row-reads
-use Rattle.tally.proofs.rows.without_voter.Reads as without-voter-reads
 
--- src/lib.rt:39:9
 returns : tie.Need-returns
 returns c = let p = c .before .before .before .before .before .pre in after-same (p .0) (p .1) (p .2) (c .if1 .taken)
 
--- src/lib.rt:41:9
 entry-requires : tie.Need-entry-requires
 entry-requires c κs = let p = c .before .before .before .before .before .pre .0 in let q : c .before .before .before .before .before .args .c .item .head .code ≡ 20 = search needs in let i = session-in p q in (p .kept, (i .0, i .1))
 
--- src/lib.rt:43:17
 mul-voter : tie.Need-mul-voter
 mul-voter c = let p = c .before .before .before .before .before .before .pre .0 in let q : c .before .before .before .before .before .before .args .c .item .head .code ≡ 20 = search needs in let w = session-words p q (c .entry .result) (c .entry .ensures) in let i = content-in (c .entry .ensures) in omega arith
 
--- src/lib.rt:43:17
 shared-slice-read-voter : tie.Need-shared-slice-read-voter
 shared-slice-read-voter c = let p = c .before .before .before .before .before .before .before .pre .0 in let q : c .before .before .before .before .before .before .before .args .c .item .head .code ≡ 20 = search needs in let w = session-words p q (c .before .entry .result) (c .before .entry .ensures) in let i = content-in (c .before .entry .ensures) in omega arith
 
--- src/lib.rt:44:24
 add-weight : tie.Need-add-weight
 add-weight c = let p = c .before .before .before .before .before .before .before .pre .0 in let q : c .before .before .before .before .before .before .before .args .c .item .head .code ≡ 20 = search needs in let w = session-words p q (c .before .entry .result) (c .before .entry .ensures) in let i = content-in (c .before .entry .ensures) in omega arith
 
--- src/lib.rt:44:18
 mul-weight : tie.Need-mul-weight
 mul-weight c = let p = c .before .before .before .before .before .before .before .pre .0 in let q : c .before .before .before .before .before .before .before .args .c .item .head .code ≡ 20 = search needs in let w = session-words p q (c .before .entry .result) (c .before .entry .ensures) in let i = content-in (c .before .entry .ensures) in omega arith
 
--- src/lib.rt:44:18
 shared-slice-read-weight : tie.Need-shared-slice-read-weight
 shared-slice-read-weight c = let p = c .before .before .before .before .before .before .before .before .pre .0 in let q : c .before .before .before .before .before .before .before .before .args .c .item .head .code ≡ 20 = search needs in let w = session-words p q (c .before .before .entry .result) (c .before .before .entry .ensures) in let i = content-in (c .before .before .entry .ensures) in omega arith
 
--- src/lib.rt:45:9
 main-number-requires : tie.Need-main-number-requires
 main-number-requires c κs = let p = c .before .before .before .before .before .before .before .before .pre .0 in let q : c .before .before .before .before .before .before .before .before .args .c .item .head .code ≡ 20 = search needs in (p .kept, ballot-in p q)
 
--- src/lib.rt:46:9
 without-voter-requires : tie.Need-without-voter-requires
 without-voter-requires c κs = let p = c .before .before .before .before .before .before .before .before .before .before .pre in rows-fit (p .0) (p .1) (p .2)
 
--- src/lib.rt:47:5
 put-row-requires : tie.Need-put-row-requires
 put-row-requires c κs = let p = c .before .before .before .before .before .before .before .before .before .before .before .before .before .before .pre in let w = c .before .before .before .without-voter in row-fits (p .0) (p .1) (p .2) _ (w .result) (w .last .0) (w .kept .0) (w .ensures _ (holds (p .0) (p .1) (p .2)))
 
--- src/lib.rt:48:5
 add-result : tie.Need-add-result
 add-result c = let p = c .before .before .before .before .before .before .before .before .before .before .before .before .before .before .before .before .before .pre in let w = c .before .before .before .before .before .before .without-voter in let few = rows-few (p .0) (p .1) (p .2) _ (w .result) (w .last .0) (w .kept .0) (w .ensures _ (holds (p .0) (p .1) (p .2))) in omega arith
 
--- src/lib.rt:34:1
 same-length : tie.Need-same-length
 same-length c = search needs
 
--- src/lib.rt:34:1
 returns-2 : tie.Need-returns-2
 returns-2 c =
     let p = c .before .before .before .before .before .before .before .before .before .before .before .before .before .before .before .before .before .pre in

@@ -1,36 +1,28 @@
+-- `main_number` meets its contract. Assumes nothing.
 use Rattle.tally.proofs.Casts.{number-small, number-is}
 use native.Mathlib.Omega.{arith}
 use borrow.Author.Needs.{needs}
 use Rattle.tally.proofs.main_number.Statement.{statement}
 use Rattle.tally.proofs.main_number.Tie as tie
-use Rattle.tally.proofs.main_number.Reads as reads
-use Rattle.tally.proofs.main_number.Lts as lts
 
--- src/lib.rt:28:35
 sub-row : tie.Need-sub-row
 sub-row c = search needs
 
--- src/lib.rt:28:15
 mul-row : tie.Need-mul-row
 mul-row c = search needs
 
--- src/lib.rt:29:11
 add-result : tie.Need-add-result
 add-result c = search needs
 
--- src/lib.rt:29:5
 mul-result : tie.Need-mul-result
 mul-result c = search needs
 
--- src/lib.rt:29:5
 shared-slice-read-result : tie.Need-shared-slice-read-result
 shared-slice-read-result c = search needs
 
--- src/lib.rt:29:5
 add-result-2 : tie.Need-add-result-2
 add-result-2 c = let p = c .before .pre in omega (arith, number-small (p .0) (c .before .args .k) (p .1 .0) (p .1 .1))
 
--- src/lib.rt:23:1
 returns : tie.Need-returns
 returns c = let p = c .before .pre in number-is (p .0) (c .before .args .k) (p .1 .0) (p .1 .1) (p .1 .2)
 

@@ -1,8 +1,9 @@
-use mathlib.Core.Path.{_≡_, refl}
+-- `total_weight` meets its contract. The loop's invariant: the sum and the weights of the rows that are left make the total. Assumes nothing.
+use mathlib.Core.Path.{_≡_}
 use mathlib.Core.List.{List}
 use Prim.Native.Nat.{_≤_, _-_, _+_, _*_}
 use native.Mathlib.Nat.{zero-add}
-use lib.ListN.{length, drop}
+use lib.ListN.{drop}
 use Rattle.model.specs.Counted.{Vote, totalWeight}
 use Rattle.tally.specs.Rows.{HoldsRows}
 use Rattle.tally.proofs.Table.{weight-more, weight-all}
@@ -10,8 +11,6 @@ use native.Mathlib.Omega.{arith}
 use borrow.Author.Needs.{needs}
 use Rattle.tally.proofs.total_weight.Statement.{statement}
 use Rattle.tally.proofs.total_weight.Tie as tie
-use Rattle.tally.proofs.total_weight.Reads as reads
-use Rattle.tally.proofs.total_weight.Lts as lts
 
 abbrev Inv-loop : tie.InvT-loop
 Inv-loop ballots rows sum₀ k₀ sum k = (k ≤ rows) × (sum ≤ 4294967295 * k) × ((xs : List Vote) → HoldsRows ballots rows xs → sum + totalWeight (drop k xs) ≡ totalWeight xs)
@@ -19,43 +18,33 @@ Inv-loop ballots rows sum₀ k₀ sum k = (k ≤ rows) × (sum ≤ 4294967295 * 
 abbrev μ-loop : tie.MeasureT-loop
 μ-loop ballots rows sum₀ k₀ sum k = rows - k
 
--- src/lib.rt:19:5
 loop-holds : tie.Need-loop-holds Inv-loop μ-loop
 loop-holds c = (search needs, search needs, λ xs t. zero-add (totalWeight xs))
 
--- src/lib.rt:20:24
 mul-sum : tie.Need-mul-sum Inv-loop μ-loop
 mul-sum c = search needs
 
--- src/lib.rt:20:24
 add-sum : tie.Need-add-sum Inv-loop μ-loop
 add-sum c = search needs
 
--- src/lib.rt:20:16
 mul-sum-2 : tie.Need-mul-sum-2 Inv-loop μ-loop
 mul-sum-2 c = search needs
 
--- src/lib.rt:20:16
 shared-slice-read-sum : tie.Need-shared-slice-read-sum Inv-loop μ-loop
 shared-slice-read-sum c = search needs
 
--- src/lib.rt:20:16
 cast-sum : tie.Need-cast-sum Inv-loop μ-loop
 cast-sum c = omega (arith, c .shared-slice-known .given (3 * c .before .before .loop .k + 2))
 
--- src/lib.rt:20:9
 add-sum-2 : tie.Need-add-sum-2 Inv-loop μ-loop
 add-sum-2 c = omega (arith, c .shared-slice-known .given (3 * c .before .before .loop .k + 2))
 
--- src/lib.rt:21:9
 add-k : tie.Need-add-k Inv-loop μ-loop
 add-k c = search needs
 
--- src/lib.rt:19:5
 loop-less : tie.Need-loop-less Inv-loop μ-loop
 loop-less c = search needs
 
--- src/lib.rt:19:5
 loop-again : tie.Need-loop-again Inv-loop μ-loop
 loop-again c =
     let l = c .before .before .loop in
@@ -65,7 +54,6 @@ loop-again c =
       λ xs t. weight-more (a .ballots .now) (a .rows) xs t (l .k) (l .sum) (omega arith) (l .inv .2 xs t),
     )
 
--- src/lib.rt:13:1
 returns : tie.Need-returns Inv-loop μ-loop
 returns c xs t =
     let l = c .before .loop in

@@ -1,77 +1,58 @@
+-- `keep_row` meets its contract: the row is cleared, and put again unless it is the voter's. Assumes nothing.
 use mathlib.Core.Path.{_∙_}
 use Rattle.tally.proofs.Table.{keeps, keeps-not}
-use native.Mathlib.Omega.{arith}
 use borrow.Author.Needs.{needs}
 use Rattle.tally.proofs.rows.keep_row.Statement.{statement}
 use Rattle.tally.proofs.rows.keep_row.Tie as tie
-use Rattle.tally.proofs.rows.keep_row.Reads as reads
-use Rattle.tally.proofs.rows.keep_row.Lts as lts
-use Rattle.tally.proofs.rows.put_row.Reads as put-row-reads
 
--- src/rows.rt:29:14
 mul-at : tie.Need-mul-at
 mul-at c = search needs
 
--- src/rows.rt:30:18
 mul-ballot : tie.Need-mul-ballot
 mul-ballot c = search needs
 
--- src/rows.rt:30:18
 slice-read-ballot : tie.Need-slice-read-ballot
 slice-read-ballot c = search needs
 
--- src/rows.rt:31:25
 add-other : tie.Need-add-other
 add-other c = search needs
 
--- src/rows.rt:31:17
 mul-other : tie.Need-mul-other
 mul-other c = search needs
 
--- src/rows.rt:31:17
 slice-read-other : tie.Need-slice-read-other
 slice-read-other c = search needs
 
--- src/rows.rt:32:26
 add-weight : tie.Need-add-weight
 add-weight c = search needs
 
--- src/rows.rt:32:18
 mul-weight : tie.Need-mul-weight
 mul-weight c = search needs
 
--- src/rows.rt:32:18
 slice-read-weight : tie.Need-slice-read-weight
 slice-read-weight c = search needs
 
--- src/rows.rt:33:5
 put-row-requires : tie.Need-put-row-requires
 put-row-requires c κs = search needs
 
--- src/rows.rt:35:9
 same-length : tie.Need-same-length
 same-length c = search needs
 
--- src/rows.rt:35:9
 returns : tie.Need-returns
 returns c =
     let a = c .before .before .before .before .before .before .before .before .before .args in
     let q = keeps-not (a .ballots .now) (a .kept) (a .k) (a .voter) (c .if1 .taken) in
     (c .before .before .before .put-row .ensures ∙ q .0, q .1)
 
--- src/rows.rt:37:5
 put-row-requires-2 : tie.Need-put-row-requires-2
 put-row-requires-2 c κs = search needs
 
--- src/rows.rt:38:5
 add-result : tie.Need-add-result
 add-result c = search needs
 
--- src/rows.rt:24:1
 same-length-2 : tie.Need-same-length-2
 same-length-2 c = search needs
 
--- src/rows.rt:24:1
 returns-2 : tie.Need-returns-2
 returns-2 c =
     let a = c .before .before .before .before .before .before .before .before .before .before .before .before .before .args in

@@ -1,53 +1,41 @@
+-- `put_row` meets its contract. Assumes nothing.
 use lib.ListN.{length-set}
 use native.Mathlib.Numerals.{towards-suc}
 use native.Mathlib.Omega.{arith}
 use borrow.Author.Needs.{needs}
 use Rattle.tally.proofs.rows.put_row.Statement.{statement}
 use Rattle.tally.proofs.rows.put_row.Tie as tie
-use Rattle.tally.proofs.rows.put_row.Reads as reads
-use Rattle.tally.proofs.rows.put_row.Lts as lts
 
--- src/rows.rt:16:14
 mul-at : tie.Need-mul-at
 mul-at c = search needs
 
--- src/rows.rt:17:5
 mul-ballots : tie.Need-mul-ballots
 mul-ballots c = search needs
 
--- src/rows.rt:17:5
 slice-write-ballots : tie.Need-slice-write-ballots
 slice-write-ballots c = search needs
 
--- src/rows.rt:18:13
 add-ballots : tie.Need-add-ballots
 add-ballots c = search needs
 
--- src/rows.rt:18:5
 mul-ballots-2 : tie.Need-mul-ballots-2
 mul-ballots-2 c = search needs
 
--- src/rows.rt:18:5
 slice-write-ballots-2 : tie.Need-slice-write-ballots-2
 slice-write-ballots-2 c = simp length-set (omega arith)
 
--- src/rows.rt:19:13
 add-ballots-2 : tie.Need-add-ballots-2
 add-ballots-2 c = search needs
 
--- src/rows.rt:19:5
 mul-ballots-3 : tie.Need-mul-ballots-3
 mul-ballots-3 c = search needs
 
--- src/rows.rt:19:5
 slice-write-ballots-3 : tie.Need-slice-write-ballots-3
 slice-write-ballots-3 c = simp length-set (omega arith)
 
--- src/rows.rt:12:1
 same-length : tie.Need-same-length
 same-length c = search needs
 
--- src/rows.rt:12:1
 returns : tie.Need-returns
 returns c = simp towards-suc
 

@@ -1,3 +1,4 @@
+-- `without_voter` meets its contract. The loop's invariant: of the votes that the table held, the first k were looked at. Assumes nothing.
 use mathlib.Core.Path.{_≡_, refl, _∙_}
 use mathlib.Core.List.{List}
 use Prim.Native.Nat.{_≤_, _-_}
@@ -9,9 +10,6 @@ use native.Mathlib.Omega.{arith}
 use borrow.Author.Needs.{needs}
 use Rattle.tally.proofs.rows.without_voter.Statement.{statement}
 use Rattle.tally.proofs.rows.without_voter.Tie as tie
-use Rattle.tally.proofs.rows.without_voter.Reads as reads
-use Rattle.tally.proofs.rows.without_voter.Lts as lts
-use Rattle.tally.proofs.rows.keep_row.Reads as keep-row-reads
 
 abbrev Inv-loop : tie.InvT-loop
 Inv-loop ballots₀ rows voter kept₀ k₀ ballots kept k = (kept ≤ k) × (k ≤ rows) × (length ballots ≡ length ballots₀)
@@ -20,23 +18,18 @@ Inv-loop ballots₀ rows voter kept₀ k₀ ballots kept k = (kept ≤ k) × (k 
 abbrev μ-loop : tie.MeasureT-loop
 μ-loop ballots₀ rows voter kept₀ k₀ ballots kept k = rows - k
 
--- src/rows.rt:48:5
 loop-holds : tie.Need-loop-holds Inv-loop μ-loop
 loop-holds c = (search needs, search needs, refl, λ xs t. dropped-none _ _ xs _ _ refl t)
 
--- src/rows.rt:49:9
 keep-row-requires : tie.Need-keep-row-requires Inv-loop μ-loop
 keep-row-requires c κs = search needs
 
--- src/rows.rt:50:9
 add-k : tie.Need-add-k Inv-loop μ-loop
 add-k c = search needs
 
--- src/rows.rt:48:5
 loop-less : tie.Need-loop-less Inv-loop μ-loop
 loop-less c = search needs
 
--- src/rows.rt:48:5
 loop-again : tie.Need-loop-again Inv-loop μ-loop
 loop-again c =
     let l = c .before .before .before .before .before .loop in
@@ -49,11 +42,9 @@ loop-again c =
       λ xs t. rw (called .ensures .0, called .ensures .1) (dropped-more (a .voter) (length (a .ballots .now)) xs (l .ballots) (l .kept) (l .k) (l .inv .0) (omega (arith, t .number)) (l .inv .3 xs t)),
     )
 
--- src/rows.rt:42:1
 same-length : tie.Need-same-length Inv-loop μ-loop
 same-length c = c .before .loop .inv .2
 
--- src/rows.rt:42:1
 returns : tie.Need-returns Inv-loop μ-loop
 returns c xs t =
     let l = c .before .loop in
