@@ -373,13 +373,7 @@ fn is_second(history: &History, item: &Candidate, parent: usize) -> bool {
 }
 
 /// 13: the content.
-fn content_fits(
-    hash: Hash,
-    history: &History,
-    board: &[u32],
-    item: &Candidate,
-    session: Option<usize>,
-) -> bool {
+fn content_fits(hash: Hash, history: &History, board: &[u32], item: &Candidate, session: Option<usize>) -> bool {
     let words = item.content;
     let contests_fit = |set: u32| set != 0 && set & !history.contests == 0;
     match item.code {
@@ -412,9 +406,7 @@ fn content_fits(
             let set = words[0];
             let (m, t) = history.threshold.expect("an extraction follows a threshold");
             let below_m = if m == 32 { u32::MAX } else { (1 << m) - 1 };
-            words.len() == 1 + TRUSTEE * set.count_ones() as usize
-                && set & !below_m == 0
-                && set.count_ones() >= t
+            words.len() == 1 + TRUSTEE * set.count_ones() as usize && set & !below_m == 0 && set.count_ones() >= t
         }
         _ => true,
     }

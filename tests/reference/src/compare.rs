@@ -11,11 +11,18 @@ pub enum Side {
 
 #[derive(Clone, Copy, PartialEq, Eq, Debug)]
 pub enum Comparison {
-    Refused { side: Side, number: u32, items: u32 },
+    Refused {
+        side: Side,
+        number: u32,
+        items: u32,
+    },
     Apart,
     Same,
     /// The main numbers of the two items.
-    Collision { kept: u32, later: u32 },
+    Collision {
+        kept: u32,
+        later: u32,
+    },
 }
 
 /// A board with its verdicts.
