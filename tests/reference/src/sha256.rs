@@ -89,63 +89,73 @@ pub fn sha256(message: &[u32]) -> [u32; 8] {
     block(hash, &last)
 }
 
+/// SHA-256 of bytes, with the padding written out as the standard has it. For the vectors.
+fn sha256_bytes(message: &[u8]) -> [u32; 8] {
+    let mut padded = message.to_vec();
+    padded.push(0x80);
+    while padded.len() % 64 != 56 {
+        padded.push(0);
+    }
+    padded.extend((message.len() as u64 * 8).to_be_bytes());
+    let mut hash = H0;
+    for bytes in padded.chunks(64) {
+        let words =
+            std::array::from_fn(|i| u32::from_be_bytes(bytes[4 * i..4 * i + 4].try_into().expect("four bytes")));
+        hash = block(hash, &words);
+    }
+    hash
+}
+
+/// Known answers: the standard's examples, and zero bytes with lengths around the end of a
+/// block, from Python's hashlib.
+pub fn check_vectors() -> Result<usize, String> {
+    let a_million_times_a = vec![b'a'; 1_000_000];
+    let zeros = [0; 1000];
+    let vectors: [(&[u8], &str); 10] = [
+        (b"", "e3b0c44298fc1c149afbf4c8996fb92427ae41e4649b934ca495991b7852b855"),
+        (b"abc", "ba7816bf8f01cfea414140de5dae2223b00361a396177a9cb410ff61f20015ad"),
+        (
+            b"abcdbcdecdefdefgefghfghighijhijkijkljklmklmnlmnomnopnopq",
+            "248d6a61d20638b8e5c026930c3e6039a33ce45964ff2167f6ecedd419db06c1",
+        ),
+        (
+            b"abcdefghbcdefghicdefghijdefghijkefghijklfghijklmghijklmn\
+              hijklmnoijklmnopjklmnopqklmnopqrlmnopqrsmnopqrstnopqrstu",
+            "cf5b16a778af8380036ce59e7b0492370b249b11e8f07a51afac45037afee9d1",
+        ),
+        (&a_million_times_a, "cdc76e5c9914fb9281a1c7e284d73e67f1809a48a497200e046d39ccc7112cd0"),
+        (&zeros[..52], "7955cb2de90dd9efc6df9fdbf5f5d10c114f4135a9a6b52db1003be749e32f7a"),
+        (&zeros[..56], "d4817aa5497628e7c77e6b606107042bbba3130888c5f47a375e6179be789fbb"),
+        (&zeros[..60], "5dcc1b5872dd9ff1c234501f1fefda01f664164e1583c3e1bb3dbea47588ab31"),
+        (&zeros[..64], "f5a5fd42d16a20302798ef6ed309979b43003d2320d9f0e8ea9831a92759fb4b"),
+        (&zeros, "541b3e9daa09b20bf85fa273e5cbd3e80185aa4ec298e765db87742b70138a53"),
+    ];
+    for (message, expected) in vectors {
+        let hex = |hash: [u32; 8]| hash.iter().map(|w| format!("{w:08x}")).collect::<String>();
+        let mut given = vec![sha256_bytes(message)];
+        if message.len() % 4 == 0 {
+            given.push(sha256(&crate::program::words(message)));
+        }
+        if given.iter().any(|&hash| hex(hash) != expected) {
+            return Err(format!("SHA-256 of {} bytes is not {expected}", message.len()));
+        }
+    }
+    Ok(vectors.len())
+}
+
 #[cfg(test)]
 mod tests {
-    use super::*;
-
-    // A message of bytes whose count is a multiple of 4, as words.
-    fn words(bytes: &[u8]) -> Vec<u32> {
-        assert_eq!(bytes.len() % 4, 0);
-        bytes.chunks(4).map(|b| u32::from_be_bytes(b.try_into().unwrap())).collect()
-    }
-
-    fn hex(hash: [u32; 8]) -> String {
-        hash.iter().map(|w| format!("{w:08x}")).collect()
-    }
-
     #[test]
-    fn empty() {
-        assert_eq!(hex(sha256(&[])), "e3b0c44298fc1c149afbf4c8996fb92427ae41e4649b934ca495991b7852b855");
+    fn vectors() {
+        super::check_vectors().unwrap();
     }
 
-    // One block by hand: "abc" is not of whole words.
+    // Both paddings agree at every length around the ends of blocks.
     #[test]
-    fn abc() {
-        let mut last = [0u32; 16];
-        last[0] = 0x61626380;
-        last[15] = 24;
-        assert_eq!(hex(block(H0, &last)), "ba7816bf8f01cfea414140de5dae2223b00361a396177a9cb410ff61f20015ad");
-    }
-
-    #[test]
-    fn two_blocks() {
-        let message = b"abcdbcdecdefdefgefghfghighijhijkijkljklmklmnlmnomnopnopq";
-        assert_eq!(hex(sha256(&words(message))), "248d6a61d20638b8e5c026930c3e6039a33ce45964ff2167f6ecedd419db06c1");
-    }
-
-    #[test]
-    fn three_blocks() {
-        let message = b"abcdefghbcdefghicdefghijdefghijkefghijklfghijklmghijklmn\
-                        hijklmnoijklmnopjklmnopqklmnopqrlmnopqrsmnopqrstnopqrstu";
-        assert_eq!(hex(sha256(&words(message))), "cf5b16a778af8380036ce59e7b0492370b249b11e8f07a51afac45037afee9d1");
-    }
-
-    #[test]
-    fn a_million_times_a() {
-        assert_eq!(
-            hex(sha256(&words(&vec![b'a'; 1_000_000]))),
-            "cdc76e5c9914fb9281a1c7e284d73e67f1809a48a497200e046d39ccc7112cd0"
-        );
-    }
-
-    // Zero words, with lengths around the end of a block; the values are from Python's hashlib.
-    #[test]
-    fn zeros() {
-        assert_eq!(hex(sha256(&[0; 1])), "df3f619804a92fdb4057192dc43dd748ea778adc52bc498ce80524c014b81119");
-        assert_eq!(hex(sha256(&[0; 13])), "7955cb2de90dd9efc6df9fdbf5f5d10c114f4135a9a6b52db1003be749e32f7a");
-        assert_eq!(hex(sha256(&[0; 14])), "d4817aa5497628e7c77e6b606107042bbba3130888c5f47a375e6179be789fbb");
-        assert_eq!(hex(sha256(&[0; 15])), "5dcc1b5872dd9ff1c234501f1fefda01f664164e1583c3e1bb3dbea47588ab31");
-        assert_eq!(hex(sha256(&[0; 16])), "f5a5fd42d16a20302798ef6ed309979b43003d2320d9f0e8ea9831a92759fb4b");
-        assert_eq!(hex(sha256(&[0; 250])), "541b3e9daa09b20bf85fa273e5cbd3e80185aa4ec298e765db87742b70138a53");
+    fn paddings_agree() {
+        for count in 0..70 {
+            let words: Vec<u32> = (0..count).map(|i| i * 0x0101_0107).collect();
+            assert_eq!(super::sha256(&words), super::sha256_bytes(&crate::program::bytes(&words)));
+        }
     }
 }

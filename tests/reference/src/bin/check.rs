@@ -9,6 +9,7 @@ use reference::collisions;
 use reference::interface::{library, stand_in, Interface, MISTAKE, MISTAKES};
 use reference::program::{bytes, program};
 use reference::random::Random;
+use reference::sha256::check_vectors;
 use reference::stored::check_folder;
 use std::collections::BTreeMap;
 use std::fs;
@@ -71,6 +72,7 @@ fn main() {
     if let Some((group, seed)) = options.only {
         return only(&options, group, seed);
     }
+    vectors();
     stored_boards(&options);
     collision_boards();
     hidden_tracks();
@@ -92,6 +94,13 @@ fn main() {
 fn fail(message: &str) -> ! {
     println!("FAILED     {message}");
     exit(1);
+}
+
+fn vectors() {
+    match check_vectors() {
+        Ok(count) => println!("sha-256    {count} known answers"),
+        Err(message) => fail(&message),
+    }
 }
 
 fn stored_boards(options: &Options) {

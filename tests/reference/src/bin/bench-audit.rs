@@ -1,0 +1,105 @@
+//! Times the audit: the reference, the hashes alone, and the library where it is linked.
+//!
+//!   bench-audit [--write FOLDER]     FOLDER gets the boards, for other programs to time
+//!
+//! Every run finds its tables full of an earlier run's words; the audit clears them itself.
+
+use reference::audit::{audit_with, hashed};
+use reference::format::*;
+use reference::interface::{library, AUDIT_ANSWER};
+use reference::plan::Laid;
+use reference::program::bytes;
+use reference::random::Random;
+use reference::sha256::sha256;
+use reference::sound::{make, Shape};
+use std::fs;
+use std::hint::black_box;
+use std::path::Path;
+use std::time::Instant;
+
+fn main() {
+    let mut args = std::env::args().skip(1);
+    let folder = match args.next().as_deref() {
+        None => None,
+        Some("--write") => Some(args.next().expect("--write FOLDER")),
+        Some(_) => panic!("usage: bench-audit [--write FOLDER]"),
+    };
+    println!(
+        "times in microseconds, the best of several runs; the library {}",
+        match library() {
+            Some(_) => "is linked",
+            None => "is NOT linked",
+        }
+    );
+    println!("   items    words  reference  hash only    library  lib/ref  lib/hash");
+    let shapes = [(100, None), (500, None), (2_048, None), (230, Some(16_384)), (2_048, Some(MAX_WORDS))];
+    for (items, words) in shapes {
+        let shape = Shape { items, words, long: 10, voters: items / 8, extraction: true };
+        let board = make(&mut Random::new(2026), sha256, shape).plan.lay(sha256);
+        if let Some(folder) = &folder {
+            write(Path::new(folder), items, &board);
+        }
+        row(items, &board);
+    }
+}
+
+fn row(items: usize, board: &Laid) {
+    let (words, verdicts) = (&board.words, &board.verdicts);
+    let (mut index, mut ballots) = (vec![7; INDEX_NEED], vec![7; BALLOTS_NEED]);
+    let (report, history) = audit_with(sha256, words, verdicts, &mut index, &mut ballots);
+    assert_eq!(report.number, 0, "the board is sound");
+    let history = history.expect("a history");
+    let reference = best(|| {
+        black_box(audit_with(sha256, black_box(words), verdicts, &mut index, &mut ballots).0);
+    });
+    let hashes = best(|| {
+        for number in 1..=history.items() {
+            black_box(sha256(black_box(hashed(words, history.item(number)))));
+        }
+    });
+    let mut line = format!("{items:>8} {:>8} {reference:>10.1} {hashes:>10.1}", words.len());
+    if let Some(library) = library() {
+        let mut answer = [0u32; AUDIT_ANSWER];
+        // The buffers live here and have the lengths given with them.
+        let time = best(|| unsafe {
+            (library.audit)(
+                black_box(words.as_ptr()),
+                words.len(),
+                verdicts.as_ptr(),
+                verdicts.len(),
+                index.as_mut_ptr(),
+                index.len(),
+                ballots.as_mut_ptr(),
+                ballots.len(),
+                answer.as_mut_ptr(),
+                answer.len(),
+            );
+        });
+        assert_eq!((answer[0], answer[1]), (0, items as u32), "the library accepts the board");
+        line += &format!(" {time:>10.1} {:>8.2} {:>9.2}", time / reference, time / hashes);
+    } else {
+        line += "          -        -         -";
+    }
+    println!("{line}");
+}
+
+/// The best time of a run, in microseconds: at least 10 runs, for a fifth of a second.
+fn best(mut run: impl FnMut()) -> f64 {
+    let start = Instant::now();
+    let mut best = f64::MAX;
+    let mut runs = 0;
+    while runs < 10 || (start.elapsed().as_secs_f64() < 0.2 && runs < 10_000) {
+        let one = Instant::now();
+        run();
+        best = best.min(one.elapsed().as_secs_f64() * 1e6);
+        runs += 1;
+    }
+    best
+}
+
+fn write(folder: &Path, items: usize, board: &Laid) {
+    let folder = folder.join(format!("{items}-items-{}-words", board.words.len()));
+    fs::create_dir_all(&folder).expect("a folder for the board");
+    fs::write(folder.join("board.words"), bytes(&board.words)).expect("board.words");
+    fs::write(folder.join("verdicts.words"), bytes(&board.verdicts)).expect("verdicts.words");
+}
