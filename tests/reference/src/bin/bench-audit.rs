@@ -49,52 +49,47 @@ fn row(items: usize, board: &Laid) {
     let (report, history) = audit_with(sha256, words, verdicts, &mut index, &mut ballots);
     assert_eq!(report.number, 0, "the board is sound");
     let history = history.expect("a history");
-    let reference = best(|| {
+    let mut answer = [0u32; AUDIT_ANSWER];
+    let (mut reference, mut hashes, mut by_library) = (f64::MAX, f64::MAX, f64::MAX);
+    let start = Instant::now();
+    let mut rounds = 0;
+    // In turns, so that what else the machine does falls on all alike.
+    while rounds < 20 || (start.elapsed().as_secs_f64() < 1.0 && rounds < 5_000) {
+        rounds += 1;
+        let run = Instant::now();
         black_box(audit_with(sha256, black_box(words), verdicts, &mut index, &mut ballots).0);
-    });
-    let hashes = best(|| {
+        reference = reference.min(microseconds(run));
+        let run = Instant::now();
         for number in 1..=history.items() {
             black_box(sha256(black_box(hashed(words, history.item(number)))));
         }
-    });
+        hashes = hashes.min(microseconds(run));
+        if let Some(library) = library() {
+            let run = Instant::now();
+            // The buffers live here and have the lengths given with them.
+            #[rustfmt::skip]
+            unsafe {
+                (library.audit)(
+                    black_box(words.as_ptr()), words.len(), verdicts.as_ptr(), verdicts.len(),
+                    index.as_mut_ptr(), index.len(), ballots.as_mut_ptr(), ballots.len(),
+                    answer.as_mut_ptr(), answer.len());
+            }
+            by_library = by_library.min(microseconds(run));
+            assert_eq!((answer[0], answer[1]), (0, items as u32), "the library accepts the board");
+        }
+    }
     let mut line = format!("{items:>8} {:>8} {reference:>10.1} {hashes:>10.1}", words.len());
-    if let Some(library) = library() {
-        let mut answer = [0u32; AUDIT_ANSWER];
-        // The buffers live here and have the lengths given with them.
-        let time = best(|| unsafe {
-            (library.audit)(
-                black_box(words.as_ptr()),
-                words.len(),
-                verdicts.as_ptr(),
-                verdicts.len(),
-                index.as_mut_ptr(),
-                index.len(),
-                ballots.as_mut_ptr(),
-                ballots.len(),
-                answer.as_mut_ptr(),
-                answer.len(),
-            );
-        });
-        assert_eq!((answer[0], answer[1]), (0, items as u32), "the library accepts the board");
-        line += &format!(" {time:>10.1} {:>8.2} {:>9.2}", time / reference, time / hashes);
+    if library().is_some() {
+        let (to_reference, to_hashes) = (by_library / reference, by_library / hashes);
+        line += &format!(" {by_library:>10.1} {to_reference:>8.2} {to_hashes:>9.2}");
     } else {
         line += "          -        -         -";
     }
     println!("{line}");
 }
 
-/// The best time of a run, in microseconds: at least 10 runs, for a fifth of a second.
-fn best(mut run: impl FnMut()) -> f64 {
-    let start = Instant::now();
-    let mut best = f64::MAX;
-    let mut runs = 0;
-    while runs < 10 || (start.elapsed().as_secs_f64() < 0.2 && runs < 10_000) {
-        let one = Instant::now();
-        run();
-        best = best.min(one.elapsed().as_secs_f64() * 1e6);
-        runs += 1;
-    }
-    best
+fn microseconds(since: Instant) -> f64 {
+    since.elapsed().as_secs_f64() * 1e6
 }
 
 fn write(folder: &Path, items: usize, board: &Laid) {

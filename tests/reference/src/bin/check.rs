@@ -182,6 +182,7 @@ fn run_case(
 ) -> Result<(), (Case, String)> {
     let case = case(makers, group, seed);
     let random = &mut Random::new(seed ^ 0x5eed);
+    let before = sum(&case);
     let mut all = || -> Result<(), String> {
         let number = check_known(&case)?;
         *counts.by_number.entry(number).or_default() += 1;
@@ -189,6 +190,9 @@ fn run_case(
             check_audit(&with, &case, random, &mut counts.audit)?;
             check_compare(&with, &case, random, &mut counts.compare)?;
             check_ancestry(&with, &case, random, &mut counts.ancestry)?;
+            if sum(&case) != before {
+                return Err("a word of a board or of its verdicts was written".to_string());
+            }
         }
         Ok(())
     };
@@ -202,6 +206,12 @@ fn run_case(
         *counts.by_reason.entry(reason.clone()).or_default() += 1;
     }
     Ok(())
+}
+
+/// A sum over the words that are lent for reading, to see that they stay as they are.
+fn sum(case: &Case) -> u64 {
+    let lent = [&case.words, &case.verdicts, &case.other.0, &case.other.1];
+    lent.into_iter().flatten().fold(0u64, |sum, &word| sum.rotate_left(7).wrapping_add(u64::from(word) + 1))
 }
 
 /// How many cases of each group make up a run of `cases`.
