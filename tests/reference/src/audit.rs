@@ -1,0 +1,495 @@
+//! The audit: every refusal in the paper's order, the report, and both tables.
+
+use crate::format::*;
+use crate::sha256::{sha256, Hash};
+use std::collections::HashMap;
+
+/// Number 0 is acceptance. In a refusal all but `number` and `items` is 0.
+#[derive(Clone, Copy, PartialEq, Eq, Debug, Default)]
+pub struct Report {
+    pub number: u32,
+    pub items: u32,
+    pub mains: u32,
+    pub ballots: u32,
+    pub weight: u64,
+    pub end: [u32; 8],
+}
+
+/// The first reason to refuse a board, and the items passed before it.
+#[derive(Clone, Copy, PartialEq, Eq, Debug)]
+pub struct Refusal {
+    pub number: u32,
+    pub items: usize,
+}
+
+/// An item that was passed.
+#[derive(Clone, Debug)]
+pub struct Item {
+    pub code: u32,
+    /// Where its head stands, and how many content words follow.
+    pub place: usize,
+    pub count: usize,
+    /// Item numbers; a genesis is its own parent.
+    pub parent: usize,
+    pub session: Option<usize>,
+    pub mains_before: usize,
+    pub time: u64,
+    pub address: [u32; 8],
+    /// Bit c: an item of type c stands under this one.
+    pub children: u64,
+}
+
+/// A round as its latest type 6 has it.
+#[derive(Clone, Copy, Debug)]
+struct Round {
+    contests: u32,
+    start: u64,
+    end: u64,
+}
+
+/// A counted ballot: item number of the ballot, voter, weight in the cast's session.
+#[derive(Clone, Copy, PartialEq, Eq, Debug)]
+pub struct Counted {
+    pub ballot: usize,
+    pub voter: u32,
+    pub weight: u32,
+}
+
+/// What the items passed so far have established. Items are numbered from 1.
+#[derive(Default)]
+pub struct History {
+    items: Vec<Item>,
+    /// Item numbers of the main items in order.
+    mains: Vec<usize>,
+    /// The first item with an address, main and hidden items apart.
+    main_addresses: HashMap<[u32; 8], usize>,
+    hidden_addresses: HashMap<[u32; 8], usize>,
+    latest_config: Option<usize>,
+    administrator: [u32; 8],
+    ballot_box: [u32; 8],
+    authorizer: Option<[u32; 8]>,
+    /// Trustees m and threshold t.
+    threshold: Option<(u32, u32)>,
+    rounds: [Option<Round>; 16],
+    contests: u32,
+    intent: bool,
+    genesis: bool,
+    latest_session: HashMap<u32, usize>,
+    counted: Vec<Counted>,
+}
+
+impl History {
+    pub fn items(&self) -> usize {
+        self.items.len()
+    }
+    pub fn mains(&self) -> usize {
+        self.mains.len()
+    }
+    pub fn item(&self, number: usize) -> &Item {
+        &self.items[number - 1]
+    }
+    /// The main item with this main number.
+    pub fn main(&self, number: usize) -> &Item {
+        self.item(self.mains[number - 1])
+    }
+    pub fn counted(&self) -> &[Counted] {
+        &self.counted
+    }
+    fn last_main(&self) -> Option<&Item> {
+        self.mains.last().map(|&number| self.item(number))
+    }
+    fn open_rounds(&self, time: u64) -> impl Iterator<Item = &Round> {
+        self.rounds.iter().flatten().filter(move |r| r.start <= time && time < r.end)
+    }
+}
+
+/// The item in hand, taken apart.
+struct Candidate<'a> {
+    place: usize,
+    kind: u32,
+    code: u32,
+    content: &'a [u32],
+    hashed: &'a [u32],
+    parent: [u32; 8],
+    previous: [u32; 8],
+    time: u64,
+    address: [u32; 8],
+}
+
+impl Candidate<'_> {
+    fn at(board: &[u32], place: usize) -> Candidate<'_> {
+        let head = board[place];
+        let n = count(head);
+        let after = place + 1 + n;
+        Candidate {
+            place,
+            kind: kind(head),
+            code: code(head),
+            content: &board[place + 1..after],
+            hashed: &board[place..place + n + HASHED_FRAME],
+            parent: eight(board, after),
+            previous: eight(board, after + 8),
+            time: time(board, after + 16),
+            // Two words of time and sixteen of signature stand before it.
+            address: eight(board, after + 34),
+        }
+    }
+}
+
+/// The hashed words of an item on its board.
+pub fn hashed<'a>(board: &'a [u32], item: &Item) -> &'a [u32] {
+    &board[item.place..item.place + item.count + HASHED_FRAME]
+}
+
+/// The audit with SHA-256.
+pub fn audit(board: &[u32], verdicts: &[u32], index: &mut [u32], ballots: &mut [u32]) -> Report {
+    audit_with(sha256, board, verdicts, index, ballots).0
+}
+
+/// The audit with any hash; the history where the board is accepted.
+pub fn audit_with(
+    hash: Hash,
+    board: &[u32],
+    verdicts: &[u32],
+    index: &mut [u32],
+    ballots: &mut [u32],
+) -> (Report, Option<History>) {
+    if board.len() > MAX_WORDS {
+        return (refused(1, 0), None);
+    }
+    if index.len() < INDEX_NEED || ballots.len() < BALLOTS_NEED {
+        return (refused(2, 0), None);
+    }
+    index.fill(0);
+    ballots.fill(0);
+    match walk(hash, board, verdicts, ballots.len()) {
+        Err(refusal) => (refused(refusal.number, refusal.items), None),
+        Ok(history) => {
+            write_index(&history, index);
+            write_ballots(&history, ballots);
+            (accepted(&history), Some(history))
+        }
+    }
+}
+
+pub fn refused(number: u32, items: usize) -> Report {
+    Report { number, items: items as u32, ..Report::default() }
+}
+
+fn accepted(history: &History) -> Report {
+    Report {
+        number: 0,
+        items: history.items() as u32,
+        mains: history.mains() as u32,
+        ballots: history.counted.len() as u32,
+        weight: history.counted.iter().map(|c| u64::from(c.weight)).sum(),
+        end: history.last_main().expect("an accepted board has a genesis").address,
+    }
+}
+
+fn write_index(history: &History, index: &mut [u32]) {
+    for (item, row) in history.items.iter().zip(index.chunks_mut(INDEX_ROW)) {
+        row[0] = item.place as u32;
+        row[1] = item.parent as u32;
+        row[2] = item.session.map_or(NO_SESSION, |s| s as u32);
+        row[3] = item.mains_before as u32;
+    }
+}
+
+fn write_ballots(history: &History, ballots: &mut [u32]) {
+    for (counted, row) in history.counted.iter().zip(ballots.chunks_mut(BALLOT_ROW)) {
+        row[0] = history.item(counted.ballot).mains_before as u32 + 1;
+        row[1] = counted.voter;
+        row[2] = counted.weight;
+    }
+}
+
+/// Refusals 3 and up.
+fn walk(hash: Hash, board: &[u32], verdicts: &[u32], ballots_len: usize) -> Result<History, Refusal> {
+    if board.is_empty() || kind(board[0]) == CLOSING {
+        return Err(Refusal { number: 3, items: 0 });
+    }
+    let mut history = History::default();
+    let mut place = 0;
+    loop {
+        let items = history.items();
+        let refuse = |number| Err(Refusal { number, items });
+        if place == board.len() {
+            return refuse(4);
+        }
+        let head = board[place];
+        if kind(head) == CLOSING {
+            let number = (head & 0x0fff_ffff) as usize;
+            if number != items || place + 1 != board.len() || verdicts.len() > VERDICT_WORDS * items {
+                return refuse(18);
+            }
+            if history.counted.len() * BALLOT_ROW > ballots_len {
+                return refuse(17);
+            }
+            return Ok(history);
+        }
+        if items == MAX_ITEMS {
+            return refuse(1);
+        }
+        if kind_of(code(head)) != Some(kind(head)) {
+            return refuse(5);
+        }
+        if !count_fits(code(head), count(head)) {
+            return refuse(6);
+        }
+        let length = count(head) + FRAME;
+        if place + length > board.len() {
+            return refuse(4);
+        }
+        let item = Candidate::at(board, place);
+        let checked = check(hash, board, &history, &item, verdicts);
+        let (parent, session) = match checked {
+            Ok(found) => found,
+            Err(number) => return refuse(number),
+        };
+        append(&mut history, board, &item, parent, session);
+        place += length;
+    }
+}
+
+/// Checks 7 to 16 of one item. Gives the item numbers of its parent and session.
+fn check(
+    hash: Hash,
+    board: &[u32],
+    history: &History,
+    item: &Candidate,
+    verdicts: &[u32],
+) -> Result<(usize, Option<usize>), u32> {
+    let number = history.items() + 1;
+
+    // 7: the address.
+    if hash(item.hashed) != item.address {
+        return Err(7);
+    }
+    // 8: the previous item.
+    let previous = match item.kind {
+        MAIN => history.last_main().map_or(ZEROS, |main| main.address),
+        _ => item.parent,
+    };
+    if item.previous != previous {
+        return Err(8);
+    }
+    // 9: the parent.
+    let parent = find_parent(history, item, number).ok_or(9u32)?;
+    // 10: the time.
+    let earliest = match item.kind {
+        MAIN => history.last_main().map_or(0, |main| main.time),
+        _ => history.item(parent).time,
+    };
+    if item.time < earliest {
+        return Err(10);
+    }
+    let session = match item.code {
+        SESSION => Some(number),
+        GENESIS => None,
+        _ => history.item(parent).session,
+    };
+    if !in_phase(history, board, item, session) {
+        return Err(11);
+    }
+    if is_second(history, item, parent) {
+        return Err(12);
+    }
+    if !content_fits(hash, history, board, item, session) {
+        return Err(13);
+    }
+    // 14: nine verdict words.
+    let at = (number - 1) * VERDICT_WORDS;
+    if verdicts.len() < at + VERDICT_WORDS {
+        return Err(14);
+    }
+    let verdict = verdicts[at];
+    if verdict & !1 != VERDICT << 28 {
+        return Err(14);
+    }
+    // 15: the writer's key.
+    if eight(verdicts, at + 1) != writers_key(history, board, item, session) {
+        return Err(15);
+    }
+    // 16: the verdict.
+    if verdict & 1 == 0 {
+        return Err(16);
+    }
+    Ok((parent, session))
+}
+
+/// The parent's item number, if it is found and as listed.
+fn find_parent(history: &History, item: &Candidate, number: usize) -> Option<usize> {
+    let listed = parent_of(item.code);
+    if listed == Parent::Zeros {
+        return (item.parent == ZEROS).then_some(number);
+    }
+    let addresses = if item.code <= TRACK { &history.main_addresses } else { &history.hidden_addresses };
+    let parent = *addresses.get(&item.parent)?;
+    let as_listed = match listed {
+        Parent::Zeros => false,
+        Parent::LatestConfig => history.latest_config == Some(parent),
+        Parent::Type(code) => history.item(parent).code == code,
+    };
+    as_listed.then_some(parent)
+}
+
+/// 11: the phases.
+fn in_phase(history: &History, board: &[u32], item: &Candidate, session: Option<usize>) -> bool {
+    let code = item.code;
+    if history.intent && code < INTENT {
+        return false;
+    }
+    if is_voting(code) && history.open_rounds(item.time).next().is_none() {
+        return false;
+    }
+    if code == SESSION && (history.threshold.is_none() || history.authorizer.is_none()) {
+        return false;
+    }
+    if is_voting(code) && code != SESSION {
+        let own = session.expect("a voting item has a session");
+        let voter = content(board, history.item(own))[0];
+        if history.latest_session.get(&voter) != Some(&own) {
+            return false;
+        }
+    }
+    if code == INTENT && history.threshold.is_none() {
+        return false;
+    }
+    true
+}
+
+/// 12: only one.
+fn is_second(history: &History, item: &Candidate, parent: usize) -> bool {
+    let under = |code: u32| history.item(parent).children & (1 << code) != 0;
+    match item.code {
+        GENESIS => history.genesis,
+        THRESHOLD => history.threshold.is_some(),
+        SERVER_COMMITMENT | BALLOT | EXTRACTION | CONFIRMATION => under(item.code),
+        TRACK | VERIFIER | VOTER_OPENING | SERVER_OPENING => under(item.code),
+        CAST | SPOIL => under(CAST) || under(SPOIL),
+        _ => false,
+    }
+}
+
+/// 13: the content.
+fn content_fits(hash: Hash, history: &History, board: &[u32], item: &Candidate, session: Option<usize>) -> bool {
+    let words = item.content;
+    let contests_fit = |set: u32| set != 0 && set & !history.contests == 0;
+    match item.code {
+        CONTEST => words[0] <= 31,
+        THRESHOLD => {
+            let (m, t) = (words[0], words[1]);
+            1 <= t && t <= m && m <= 32
+        }
+        AUTHORIZER => words[0] == 1 || words[0] == 2,
+        ROUND => words[0] <= 15 && contests_fit(words[1]) && time(words, 2) < time(words, 4),
+        SESSION => words[1] >= 1 && contests_fit(words[18]),
+        VOTER_COMMITMENT | SERVER_COMMITMENT => words[8] & 0x00ff_ffff == 0,
+        BALLOT => {
+            let set = words[0];
+            if words.len() != 1 + CRYPTOGRAM * set.count_ones() as usize {
+                return false;
+            }
+            let own = session.expect("a ballot has a session");
+            let allowed = content(board, history.item(own))[18];
+            let mut enabled = 0;
+            for round in history.open_rounds(item.time) {
+                enabled |= round.contests;
+            }
+            set & !allowed == 0
+                && set & !enabled == 0
+                && words[1..].chunks(CRYPTOGRAM).all(|c| c[CRYPTOGRAM - 1] & 0xffff == 0)
+        }
+        EXTRACTION => words == fingerprint(hash, history, board),
+        CONFIRMATION => {
+            let set = words[0];
+            let (m, t) = history.threshold.expect("an extraction follows a threshold");
+            let below_m = if m == 32 { u32::MAX } else { (1 << m) - 1 };
+            words.len() == 1 + TRUSTEE * set.count_ones() as usize && set & !below_m == 0 && set.count_ones() >= t
+        }
+        _ => true,
+    }
+}
+
+/// The hash over the contents of the counted ballots, in order.
+fn fingerprint(hash: Hash, history: &History, board: &[u32]) -> [u32; 8] {
+    let mut message = Vec::new();
+    for counted in &history.counted {
+        message.extend_from_slice(content(board, history.item(counted.ballot)));
+    }
+    hash(&message)
+}
+
+fn writers_key(history: &History, board: &[u32], item: &Candidate, session: Option<usize>) -> [u32; 8] {
+    match writer_of(item.code) {
+        // Only the first genesis comes this far, and it is checked under its own key.
+        Writer::Administrator if item.code == GENESIS => eight(item.content, 1),
+        Writer::Administrator => history.administrator,
+        Writer::BallotBox => history.ballot_box,
+        Writer::Authorizer => history.authorizer.expect("a session follows an authorizer"),
+        Writer::Voter => {
+            let own = session.expect("a voter's item has a session");
+            eight(content(board, history.item(own)), 2)
+        }
+        Writer::Verifier => eight(item.content, 0),
+    }
+}
+
+fn content<'a>(board: &'a [u32], item: &Item) -> &'a [u32] {
+    &board[item.place + 1..item.place + 1 + item.count]
+}
+
+/// The history with an item that has passed.
+fn append(history: &mut History, board: &[u32], item: &Candidate, parent: usize, session: Option<usize>) {
+    let number = history.items() + 1;
+    let words = item.content;
+    history.items.push(Item {
+        code: item.code,
+        place: item.place,
+        count: words.len(),
+        parent,
+        session,
+        mains_before: history.mains(),
+        time: item.time,
+        address: item.address,
+        children: 0,
+    });
+    if item.code != GENESIS {
+        history.items[parent - 1].children |= 1 << item.code;
+    }
+    if item.kind == MAIN {
+        history.mains.push(number);
+        history.main_addresses.entry(item.address).or_insert(number);
+    } else {
+        history.hidden_addresses.entry(item.address).or_insert(number);
+    }
+    if is_config(item.code) {
+        history.latest_config = Some(number);
+    }
+    match item.code {
+        GENESIS => {
+            history.genesis = true;
+            history.administrator = eight(words, 1);
+            history.ballot_box = eight(words, 9);
+        }
+        CONTEST => history.contests |= 1 << words[0],
+        THRESHOLD => history.threshold = Some((words[0], words[1])),
+        AUTHORIZER => history.authorizer = Some(eight(words, 1)),
+        ROUND => {
+            history.rounds[words[0] as usize] =
+                Some(Round { contests: words[1], start: time(words, 2), end: time(words, 4) });
+        }
+        SESSION => {
+            history.latest_session.insert(words[0], number);
+        }
+        CAST => {
+            let own = content(board, history.item(session.expect("a cast has a session")));
+            let (voter, weight) = (own[0], own[1]);
+            history.counted.retain(|c| c.voter != voter);
+            history.counted.push(Counted { ballot: parent, voter, weight });
+        }
+        INTENT => history.intent = true,
+        _ => {}
+    }
+}

@@ -1,0 +1,124 @@
+//! Times the audit: the reference, the hashes alone, and the library where it is linked.
+//!
+//!   bench-audit [--write FOLDER]     FOLDER gets the boards, for other programs to time
+//!
+//! Every run finds its tables full of an earlier run's words; the audit clears them itself.
+//!
+//! Times are of the processor (Linux), not of the wall clock: on a busy machine a run of some
+//! milliseconds is nearly always interrupted. `spread` is the reference's median over its best.
+//! Where it is far from 1 the machine was too busy, and the row's ratios say little.
+
+use reference::audit::{audit_with, hashed};
+use reference::format::*;
+use reference::interface::{library, AUDIT_ANSWER};
+use reference::plan::Laid;
+use reference::program::bytes;
+use reference::random::Random;
+use reference::sha256::sha256;
+use reference::sound::{make, Shape};
+use std::fs;
+use std::hint::black_box;
+use std::path::Path;
+use std::time::Instant;
+
+/// C's `struct timespec` on 64-bit Linux.
+#[repr(C)]
+struct Timespec {
+    seconds: i64,
+    nanoseconds: i64,
+}
+
+extern "C" {
+    fn clock_gettime(clock: i32, time: *mut Timespec) -> i32;
+}
+
+/// The processor time that this thread has used, in microseconds.
+fn now() -> f64 {
+    const THREAD_CPU_TIME: i32 = 3;
+    let mut time = Timespec { seconds: 0, nanoseconds: 0 };
+    let failed = unsafe { clock_gettime(THREAD_CPU_TIME, &mut time) };
+    assert_eq!(failed, 0, "the thread's clock can be read");
+    time.seconds as f64 * 1e6 + time.nanoseconds as f64 / 1e3
+}
+
+fn main() {
+    let mut args = std::env::args().skip(1);
+    let folder = match args.next().as_deref() {
+        None => None,
+        Some("--write") => Some(args.next().expect("--write FOLDER")),
+        Some(_) => panic!("usage: bench-audit [--write FOLDER]"),
+    };
+    println!(
+        "times in microseconds, the best of several runs; the library {}",
+        match library() {
+            Some(_) => "is linked",
+            None => "is NOT linked",
+        }
+    );
+    println!("   items    words  reference   spread  hash only    library  lib/ref  lib/hash");
+    let shapes = [(100, None), (500, None), (2_048, None), (230, Some(16_384)), (2_048, Some(MAX_WORDS))];
+    for (items, words) in shapes {
+        let shape = Shape { items, words, long: 10, voters: items / 8, extraction: true };
+        let board = make(&mut Random::new(2026), sha256, shape).plan.lay(sha256);
+        if let Some(folder) = &folder {
+            write(Path::new(folder), items, &board);
+        }
+        row(items, &board);
+    }
+}
+
+fn row(items: usize, board: &Laid) {
+    let (words, verdicts) = (&board.words, &board.verdicts);
+    let (mut index, mut ballots) = (vec![7; INDEX_NEED], vec![7; BALLOTS_NEED]);
+    let (report, history) = audit_with(sha256, words, verdicts, &mut index, &mut ballots);
+    assert_eq!(report.number, 0, "the board is sound");
+    let history = history.expect("a history");
+    let mut answer = [0u32; AUDIT_ANSWER];
+    let (mut by_reference, mut hashes, mut by_library) = (Vec::new(), f64::MAX, f64::MAX);
+    let start = Instant::now();
+    let mut rounds = 0;
+    // In turns, so that what else the machine does falls on all alike.
+    while rounds < 20 || (start.elapsed().as_secs_f64() < 2.0 && rounds < 5_000) {
+        rounds += 1;
+        let run = now();
+        black_box(audit_with(sha256, black_box(words), verdicts, &mut index, &mut ballots).0);
+        by_reference.push(now() - run);
+        let run = now();
+        for number in 1..=history.items() {
+            black_box(sha256(black_box(hashed(words, history.item(number)))));
+        }
+        hashes = hashes.min(now() - run);
+        if let Some(library) = library() {
+            let run = now();
+            // The buffers live here and have the lengths given with them.
+            #[rustfmt::skip]
+            let written = unsafe {
+                (library.audit)(
+                    black_box(words.as_ptr()), words.len(), verdicts.as_ptr(), verdicts.len(),
+                    index.as_mut_ptr(), index.len(), ballots.as_mut_ptr(), ballots.len(),
+                    answer.as_mut_ptr(), answer.len())
+            };
+            by_library = by_library.min(now() - run);
+            assert!(written, "the answer has room");
+            assert_eq!((answer[0], answer[1]), (0, items as u32), "the library accepts the board");
+        }
+    }
+    by_reference.sort_by(f64::total_cmp);
+    let reference = by_reference[0];
+    let spread = by_reference[rounds / 2] / reference;
+    let mut line = format!("{items:>8} {:>8} {reference:>10.1} {spread:>8.2} {hashes:>10.1}", words.len());
+    if library().is_some() {
+        let (to_reference, to_hashes) = (by_library / reference, by_library / hashes);
+        line += &format!(" {by_library:>10.1} {to_reference:>8.2} {to_hashes:>9.2}");
+    } else {
+        line += "          -        -         -";
+    }
+    println!("{line}");
+}
+
+fn write(folder: &Path, items: usize, board: &Laid) {
+    let folder = folder.join(format!("{items}-items-{}-words", board.words.len()));
+    fs::create_dir_all(&folder).expect("a folder for the board");
+    fs::write(folder.join("board.words"), bytes(&board.words)).expect("board.words");
+    fs::write(folder.join("verdicts.words"), bytes(&board.verdicts)).expect("verdicts.words");
+}

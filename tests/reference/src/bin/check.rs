@@ -1,0 +1,401 @@
+//! Runs the checks: of the reference by itself, and of the auditor's library where it is linked.
+//!
+//!   check [--boards FOLDER]... [--program FILE] [--cases N] [--seed N] [--dump FOLDER]
+//!   check --only GROUP SEED     one case again, as a failure names it
+//!   check --stand-in ..         the reference in the library's place, to try the harness
+
+use reference::checks::*;
+use reference::collisions;
+use reference::interface::{library, stand_in, Interface, MISTAKE, MISTAKES};
+use reference::program::{bytes, program};
+use reference::random::Random;
+use reference::sha256::check_vectors;
+use reference::stored::check_folder;
+use std::collections::BTreeMap;
+use std::fs;
+use std::path::{Path, PathBuf};
+use std::process::{exit, Command};
+use std::sync::atomic::{AtomicBool, Ordering};
+use std::sync::Mutex;
+use std::time::Instant;
+
+struct Options {
+    boards: Vec<PathBuf>,
+    program: Option<PathBuf>,
+    cases: u64,
+    seed: u64,
+    dump: PathBuf,
+    stand_in: bool,
+    only: Option<(Group, u64)>,
+}
+
+fn options() -> Options {
+    let mut o = Options {
+        boards: Vec::new(),
+        program: None,
+        cases: 24_000,
+        seed: 0,
+        dump: PathBuf::from("failed-case"),
+        stand_in: false,
+        only: None,
+    };
+    let mut args = std::env::args().skip(1);
+    while let Some(arg) = args.next() {
+        let mut value = || args.next().unwrap_or_else(|| usage());
+        let number = |text: String| text.parse::<u64>().unwrap_or_else(|_| usage());
+        match arg.as_str() {
+            "--boards" => o.boards.push(PathBuf::from(value())),
+            "--program" => o.program = Some(PathBuf::from(value())),
+            "--cases" => o.cases = number(value()),
+            "--seed" => o.seed = number(value()),
+            "--dump" => o.dump = PathBuf::from(value()),
+            "--stand-in" => o.stand_in = true,
+            "--only" => {
+                let group = group_named(&value()).unwrap_or_else(|| usage());
+                o.only = Some((group, number(value())));
+            }
+            _ => usage(),
+        }
+    }
+    o
+}
+
+fn usage() -> ! {
+    eprintln!("usage: check [--boards FOLDER]... [--program FILE] [--cases N] [--seed N] [--dump FOLDER]");
+    eprintln!("       check --only GROUP SEED");
+    exit(2);
+}
+
+fn main() {
+    let options = options();
+    let start = Instant::now();
+    if let Some((group, seed)) = options.only {
+        return only(&options, group, seed);
+    }
+    vectors();
+    stored_boards(&options);
+    collision_boards();
+    hidden_tracks();
+    mistakes_are_found();
+    let with = if options.stand_in { Some(stand_in()) } else { library() };
+    if options.stand_in {
+        println!("library    STAND-IN: the reference is held against itself");
+    } else if with.is_none() {
+        println!("library    NOT LINKED: the reference is checked by itself only");
+    }
+    cases(&options, with);
+    match &options.program {
+        Some(path) => programs(&options, path),
+        None => println!("program    NOT GIVEN: the auditing program is not checked"),
+    }
+    println!("done       {:.1} s", start.elapsed().as_secs_f64());
+}
+
+fn fail(message: &str) -> ! {
+    println!("FAILED     {message}");
+    exit(1);
+}
+
+fn vectors() {
+    match check_vectors() {
+        Ok(count) => println!("sha-256    {count} known answers"),
+        Err(message) => fail(&message),
+    }
+}
+
+fn stored_boards(options: &Options) {
+    for folder in &options.boards {
+        match check_folder(folder) {
+            Ok(count) => println!("stored     {count} boards print what is expected ({})", folder.display()),
+            Err(message) => fail(&message),
+        }
+    }
+}
+
+fn collision_boards() {
+    let mut seen = collisions::Seen::default();
+    for seed in 0..1_500 {
+        if let Err(message) = collisions::check(seed, &mut seen) {
+            fail(&message);
+        }
+    }
+    if seen.same < 50 || seen.collision < 500 || seen.uneven < 100 || seen.apart < 500 {
+        fail(&format!("too few collisions were made: {seen:?}"));
+    }
+    println!(
+        "weak hash  {} collisions ({} at unequal main numbers), {} same, {} apart, as demanded",
+        seen.collision, seen.uneven, seen.same, seen.apart
+    );
+}
+
+fn hidden_tracks() {
+    for seed in 0..300 {
+        if let Err(message) = check_hidden_tracks(seed) {
+            fail(&message);
+        }
+    }
+    println!("tracks     300 boards report the same main list with other hidden tracks");
+}
+
+/// The comparison itself is tried on a stand-in that makes a mistake.
+fn mistakes_are_found() {
+    let makers = Makers::default();
+    for (mistake, what) in MISTAKES.iter().enumerate() {
+        MISTAKE.store(mistake, Ordering::Relaxed);
+        let mut found = [0; 3];
+        for seed in 0..400 {
+            let case = case(&makers, Group::Sound, seed);
+            let (random, tally) = (&mut Random::new(seed), &mut Tally::default());
+            let checks = [check_audit, check_ancestry, check_compare];
+            for (entry, check) in checks.iter().enumerate() {
+                found[entry] += usize::from(check(&stand_in(), &case, random, tally).is_err());
+            }
+        }
+        let right = if mistake == 0 { found == [0; 3] } else { found.iter().all(|&f| f > 0) };
+        if !right {
+            fail(&format!("the comparison does not see '{what}': found {found:?} times"));
+        }
+    }
+    MISTAKE.store(0, Ordering::Relaxed);
+    println!("harness    {} planted mistakes are found in each entry", MISTAKES.len() - 1);
+}
+
+/// What all cases gave.
+#[derive(Default)]
+struct Counts {
+    boards: usize,
+    words: usize,
+    by_number: BTreeMap<u32, usize>,
+    by_reason: BTreeMap<String, usize>,
+    audit: Tally,
+    compare: Tally,
+    ancestry: Tally,
+}
+
+/// One case: the reference against its making, then the library against the reference.
+fn run_case(
+    makers: &Makers,
+    with: Option<Interface>,
+    group: Group,
+    seed: u64,
+    counts: &mut Counts,
+) -> Result<(), (Case, String)> {
+    let case = case(makers, group, seed);
+    let random = &mut Random::new(seed ^ 0x5eed);
+    let before = sum(&case);
+    let mut all = || -> Result<(), String> {
+        let number = check_known(&case)?;
+        *counts.by_number.entry(number).or_default() += 1;
+        if let Some(with) = with {
+            check_audit(&with, &case, random, &mut counts.audit)?;
+            check_compare(&with, &case, random, &mut counts.compare)?;
+            check_ancestry(&with, &case, random, &mut counts.ancestry)?;
+            if sum(&case) != before {
+                return Err("a word of a board or of its verdicts was written".to_string());
+            }
+        }
+        Ok(())
+    };
+    if let Err(message) = all() {
+        return Err((case, message));
+    }
+    counts.boards += 1;
+    counts.words += case.words.len();
+    if group == Group::Faults {
+        let reason = &makers.faults[seed as usize % makers.faults.len()].reason;
+        *counts.by_reason.entry(reason.clone()).or_default() += 1;
+    }
+    Ok(())
+}
+
+/// A sum over the words that are lent for reading, to see that they stay as they are.
+fn sum(case: &Case) -> u64 {
+    let lent = [&case.words, &case.verdicts, &case.other.0, &case.other.1];
+    lent.into_iter().flatten().fold(0u64, |sum, &word| sum.rotate_left(7).wrapping_add(u64::from(word) + 1))
+}
+
+/// How many cases of each group make up a run of `cases`.
+fn shares(cases: u64) -> Vec<(Group, u64)> {
+    let part = |percent: u64| cases * percent / 100;
+    vec![
+        (Group::Long, 48.min(cases)),
+        (Group::Sound, part(15)),
+        (Group::Faults, part(40)),
+        (Group::Order, part(15)),
+        (Group::Rules, part(18)),
+        (Group::Words, part(12)),
+    ]
+}
+
+fn cases(options: &Options, with: Option<Interface>) {
+    let start = Instant::now();
+    let work: Vec<(Group, u64)> = shares(options.cases)
+        .into_iter()
+        .flat_map(|(group, count)| (0..count).map(move |i| (group, options.seed + i)))
+        .collect();
+    let failed = AtomicBool::new(false);
+    let failure = Mutex::new(None);
+    let total = Mutex::new(Counts::default());
+    let next = std::sync::atomic::AtomicUsize::new(0);
+    std::thread::scope(|scope| {
+        for _ in 0..2 {
+            scope.spawn(|| {
+                let makers = Makers::default();
+                let mut counts = Counts::default();
+                while !failed.load(Ordering::Relaxed) {
+                    let at = next.fetch_add(1, Ordering::Relaxed);
+                    let Some(&(group, seed)) = work.get(at) else { break };
+                    if let Err(found) = run_case(&makers, with, group, seed, &mut counts) {
+                        failed.store(true, Ordering::Relaxed);
+                        failure.lock().unwrap().get_or_insert(found);
+                    }
+                }
+                merge(&mut total.lock().unwrap(), counts);
+            });
+        }
+    });
+    if let Some((case, message)) = failure.into_inner().unwrap() {
+        report(options, &case, &message);
+    }
+    let total = total.into_inner().unwrap();
+    let seconds = start.elapsed().as_secs_f64();
+    println!(
+        "reference  {} boards, {} words, seed {}, agree with their making ({seconds:.1} s)",
+        total.boards, total.words, options.seed
+    );
+    let numbers: Vec<String> = total.by_number.iter().map(|(n, count)| format!("{n}:{count}")).collect();
+    println!("           by refusal  {}", numbers.join(" "));
+    let least = total.by_reason.values().min().copied().unwrap_or(0);
+    let reasons = Makers::default().faults.len();
+    println!("           by reason   {} of {reasons}, each at least {least} times", total.by_reason.len());
+    let missing = (1..=18).filter(|n| ![2, 17].contains(n) && !total.by_number.contains_key(n)).count();
+    if options.cases >= 5_000 && (missing > 0 || total.by_reason.len() < reasons) {
+        fail("some refusal or reason was not made");
+    }
+    if with.is_some() {
+        for (name, tally) in [("audit", total.audit), ("compare", total.compare), ("ancestry", total.ancestry)] {
+            println!(
+                "library    {name:<9} {} calls agree in every word: {}",
+                tally.iter().sum::<usize>(),
+                told(&tally)
+            );
+        }
+    }
+}
+
+fn told(tally: &Tally) -> String {
+    let name = |n: usize| match n {
+        20 => "apart".to_string(),
+        21 => "same".to_string(),
+        22 => "collision".to_string(),
+        23 => "short answer".to_string(),
+        n => n.to_string(),
+    };
+    let parts: Vec<String> =
+        tally.iter().enumerate().filter(|(_, &c)| c > 0).map(|(n, c)| format!("{}:{c}", name(n))).collect();
+    parts.join(" ")
+}
+
+fn merge(total: &mut Counts, part: Counts) {
+    total.boards += part.boards;
+    total.words += part.words;
+    for (number, count) in part.by_number {
+        *total.by_number.entry(number).or_default() += count;
+    }
+    for (reason, count) in part.by_reason {
+        *total.by_reason.entry(reason).or_default() += count;
+    }
+    for (to, from) in
+        [(&mut total.audit, part.audit), (&mut total.compare, part.compare), (&mut total.ancestry, part.ancestry)]
+    {
+        for (a, b) in to.iter_mut().zip(from) {
+            *a += b;
+        }
+    }
+}
+
+/// The first difference: the case by name, and its words in files.
+fn report(options: &Options, case: &Case, message: &str) -> ! {
+    println!("FAILED     {}: {message}", case.name);
+    dump(&options.dump, &case.words, &case.verdicts);
+    let other = options.dump.join("other");
+    dump(&other, &case.other.0, &case.other.1);
+    println!("           the board is in {}, the one compared with in {}", options.dump.display(), other.display());
+    println!(
+        "           the case is {} in the comparison",
+        if case.kept { "the kept board" } else { "the later board" }
+    );
+    let mut words = case.name.split(' ');
+    if let (Some(group), Some(seed)) = (words.next(), words.next()) {
+        println!("           again: check --only {group} {seed}");
+    }
+    exit(1);
+}
+
+fn dump(folder: &Path, words: &[u32], verdicts: &[u32]) {
+    let _ = fs::create_dir_all(folder);
+    let _ = fs::write(folder.join("board.words"), bytes(words));
+    let _ = fs::write(folder.join("verdicts.words"), bytes(verdicts));
+    let _ = fs::write(folder.join("expected"), program(&bytes(words), &bytes(verdicts)));
+}
+
+fn only(options: &Options, group: Group, seed: u64) {
+    let makers = Makers::default();
+    let mut counts = Counts::default();
+    match run_case(&makers, library(), group, seed, &mut counts) {
+        Ok(()) => println!("{} agrees", case(&makers, group, seed).name),
+        Err((case, message)) => report(options, &case, &message),
+    }
+}
+
+/// Runs the auditing program on stored boards and on made ones, with files of odd sizes.
+fn programs(options: &Options, path: &Path) {
+    let path = fs::canonicalize(path).unwrap_or_else(|e| fail(&format!("{}: {e}", path.display())));
+    let folder = std::env::temp_dir().join(format!("tirfolma-check-{}", std::process::id()));
+    let mut count = 0;
+    let mut run = |name: &str, board: Option<&[u8]>, verdicts: Option<&[u8]>| {
+        let _ = fs::remove_dir_all(&folder);
+        fs::create_dir_all(&folder).expect("a folder for temporary files");
+        for (file, content) in [("board.words", board), ("verdicts.words", verdicts)] {
+            if let Some(content) = content {
+                fs::write(folder.join(file), content).expect("a temporary file");
+            }
+        }
+        let output = Command::new(&path).current_dir(&folder).output();
+        let output = output.unwrap_or_else(|e| fail(&format!("{}: {e}", path.display())));
+        let expected = program(board.unwrap_or(&[]), verdicts.unwrap_or(&[]));
+        if output.stdout != expected.as_bytes() {
+            let printed = String::from_utf8_lossy(&output.stdout).into_owned();
+            fail(&format!(
+                "program, {name}: prints {printed:?}, by the reference {expected:?}; see {}",
+                folder.display()
+            ));
+        }
+        count += 1;
+    };
+    run("no files", None, None);
+    let makers = Makers::default();
+    for seed in 0..400 {
+        let group = GROUPS[seed as usize % 5];
+        let case = case(&makers, group, options.seed + seed);
+        let (mut board, mut verdicts) = (bytes(&case.words), bytes(&case.verdicts));
+        let random = &mut Random::new(seed);
+        match seed % 16 {
+            1 => board.truncate(board.len().saturating_sub(random.between(1, 3))),
+            2 => verdicts.extend(vec![0; random.between(1, 3)]),
+            3 => verdicts.extend(vec![0; 4 * random.between(1, 200_000)]),
+            4 => board.resize(16_384 * 4, 0),
+            5 => board.resize(16_385 * 4, 0),
+            6 => board.resize(100_000 * 4 + random.below(2), 0),
+            _ => {}
+        }
+        run(&case.name, (seed % 16 != 7).then_some(&board[..]), (seed % 16 != 8).then_some(&verdicts[..]));
+    }
+    // The largest board that the program takes.
+    for seed in 0..4 {
+        let case = case(&makers, Group::Long, 4 * seed + 3);
+        run(&case.name, Some(&bytes(&case.words)), Some(&bytes(&case.verdicts)));
+    }
+    let _ = fs::remove_dir_all(&folder);
+    println!("program    {count} pairs of files print what the reference does");
+}

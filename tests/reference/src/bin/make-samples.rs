@@ -1,0 +1,88 @@
+//! Writes the sample boards: make-samples FOLDER. The same every time.
+
+use reference::format::*;
+use reference::plan::{Laid, Plan};
+use reference::program::{bytes, program};
+use reference::random::Random;
+use reference::sha256::sha256;
+use reference::sound::{make, Made, Shape};
+use std::fs;
+use std::path::Path;
+
+fn main() {
+    let folder = std::env::args().nth(1).expect("usage: make-samples FOLDER");
+    let folder = Path::new(&folder);
+    let made = election();
+    let laid = made.plan.lay(sha256);
+    write(folder, "election", &laid);
+
+    let mut genesis = Plan::new(made.plan.items[..1].to_vec());
+    genesis.items[0].time = 1_790_000_000_000;
+    write(folder, "genesis-alone", &genesis.lay(sha256));
+
+    // One bit of a counted ballot's first cryptogram.
+    let ballot = counted_ballot(&made);
+    let mut tampered = laid.clone();
+    tampered.words[laid.places[ballot] + 2] ^= 1;
+    write(folder, "tampered-ballot", &tampered);
+
+    // A cast whose good verdict was given for another voter's key.
+    let mut plan = made.plan.clone();
+    let cast = position(&made, |i| made.plan.items[i].code == CAST);
+    let other = position(&made, |i| {
+        made.plan.items[i].code == SESSION && eight(&made.plan.items[i].content, 2) != made.plan.items[cast].key
+    });
+    plan.items[cast].key = eight(&made.plan.items[other].content, 2);
+    write(folder, "wrong-key", &plan.lay(sha256));
+
+    // A cast taken out of the file, and nothing else changed but the closing word and verdicts.
+    let mut words = laid.words.clone();
+    words.drain(laid.places[cast]..laid.places[cast] + FRAME);
+    *words.last_mut().expect("a closing word") -= 1;
+    let mut verdicts = laid.verdicts.clone();
+    verdicts.drain(cast * VERDICT_WORDS..(cast + 1) * VERDICT_WORDS);
+    write(folder, "missing-cast", &Laid { words, verdicts, ..laid.clone() });
+
+    let mut truncated = laid.clone();
+    truncated.words.truncate(laid.words.len() * 2 / 3);
+    write(folder, "truncated", &truncated);
+}
+
+/// An election with counted ballots, a spoiled one, a whole hidden track and an extraction.
+fn election() -> Made {
+    for seed in 1.. {
+        let shape = Shape { items: 48, words: None, long: 0, voters: 5, extraction: true };
+        let made = make(&mut Random::new(seed), sha256, shape);
+        let has = |code: u32| made.plan.items.iter().filter(|s| s.code == code).count();
+        let casts = has(CAST);
+        let recast = casts > made.expected.ballots.len();
+        let small_weights = made.expected.ballots.iter().all(|row| row[2] < 10 && row[1] < 1000);
+        let year_2026 = made.plan.items[0].time > 1_700_000_000_000;
+        let whole = [SPOIL, SERVER_OPENING, CONFIRMATION].iter().all(|&code| has(code) > 0);
+        if whole && recast && small_weights && year_2026 && made.expected.ballots.len() >= 3 {
+            return made;
+        }
+    }
+    unreachable!()
+}
+
+fn position(made: &Made, fits: impl Fn(usize) -> bool) -> usize {
+    (0..made.plan.items.len()).find(|&i| fits(i)).expect("the election has such an item")
+}
+
+/// The position of the last counted ballot.
+fn counted_ballot(made: &Made) -> usize {
+    let main = made.expected.ballots.last().expect("a counted ballot")[0];
+    position(made, |i| made.plan.items[i].kind == MAIN && made.expected.rows[i][2] + 1 == main)
+}
+
+fn write(folder: &Path, name: &str, laid: &Laid) {
+    let folder = folder.join(name);
+    let (board, verdicts) = (bytes(&laid.words), bytes(&laid.verdicts));
+    let printed = program(&board, &verdicts);
+    print!("{name}: {printed}");
+    fs::create_dir_all(&folder).expect("a folder for the sample");
+    fs::write(folder.join("board.words"), board).expect("board.words");
+    fs::write(folder.join("verdicts.words"), verdicts).expect("verdicts.words");
+    fs::write(folder.join("expected"), printed).expect("expected");
+}

@@ -1,0 +1,567 @@
+//! Cases from seeds, the reference held against what their making foretells, and an
+//! implementation behind the C interface held against the reference word by word.
+
+use crate::ancestry::ancestry;
+use crate::audit::audit;
+use crate::compare::{compare, Board, Tables};
+use crate::damage::{damage_plan, damage_words, no_board};
+use crate::faults::{faults, rank, spoil_more, Fault};
+use crate::format::*;
+use crate::interface::*;
+use crate::plan::Plan;
+use crate::random::Random;
+use crate::sha256::sha256;
+use crate::sound::{any_shape, make, Expected, Made, Shape};
+
+/// What is known of a board from its making.
+#[derive(Clone)]
+pub enum Known {
+    /// It is sound, and this is what the audit must report; with the place of each head.
+    Sound(Expected, Vec<usize>, [u32; 8]),
+    /// It is refused with this number after so many items.
+    Refused(u32, usize),
+    Nothing,
+}
+
+#[derive(Clone)]
+pub struct Case {
+    /// The group and seed that make it again, and what it is.
+    pub name: String,
+    pub words: Vec<u32>,
+    pub verdicts: Vec<u32>,
+    pub known: Known,
+    /// A board to compare it with, and whether this one is the kept one.
+    pub other: (Vec<u32>, Vec<u32>),
+    pub kept: bool,
+}
+
+/// How a group of cases is made: from a seed.
+#[derive(Clone, Copy, PartialEq, Eq, Debug)]
+pub enum Group {
+    Sound,
+    /// Each fault of the list in turn.
+    Faults,
+    /// Two faults in one item.
+    Order,
+    /// Damage that keeps links and hashes right.
+    Rules,
+    /// Damage to the words.
+    Words,
+    /// Long boards, and the limits.
+    Long,
+}
+
+pub const GROUPS: [Group; 6] = [Group::Sound, Group::Faults, Group::Order, Group::Rules, Group::Words, Group::Long];
+
+pub fn group_named(name: &str) -> Option<Group> {
+    GROUPS.into_iter().find(|g| format!("{g:?}").eq_ignore_ascii_case(name))
+}
+
+/// The faults, made once.
+pub struct Makers {
+    pub faults: Vec<Fault>,
+}
+
+impl Default for Makers {
+    fn default() -> Makers {
+        Makers { faults: faults() }
+    }
+}
+
+fn sound_case(name: String, made: &Made, random: &mut Random) -> Case {
+    let laid = made.plan.lay(sha256);
+    let end = (0..laid.addresses.len()).rev().find(|&i| made.plan.items[i].kind == MAIN).expect("a main item");
+    let other = sibling(made, random).lay(sha256);
+    let known = Known::Sound(made.expected.clone(), laid.places, laid.addresses[end]);
+    Case {
+        name,
+        words: laid.words,
+        verdicts: laid.verdicts,
+        known,
+        other: (other.words, other.verdicts),
+        kept: random.chance(50),
+    }
+}
+
+/// A sound board that shares main items with this one: a shorter one, one with other hidden
+/// tracks or signatures, or one that goes another way from some item on.
+fn sibling(made: &Made, random: &mut Random) -> Plan {
+    let mut plan = made.plan.clone();
+    if random.chance(40) {
+        plan.items.truncate(random.between(1, made.plan.items.len()));
+    }
+    if random.chance(40) {
+        remove_hidden(&mut plan, random);
+    }
+    if random.chance(40) {
+        for item in &mut plan.items {
+            item.signature[random.below(16)] = random.word();
+        }
+    }
+    if random.chance(25) {
+        // Another time for the last main item: another end address.
+        if let Some(last) = plan.items.iter_mut().rev().find(|s| s.kind == MAIN) {
+            last.time = last.time.saturating_add(1);
+        }
+    }
+    plan
+}
+
+/// Some hidden items go, with all that hangs on them.
+pub fn remove_hidden(plan: &mut Plan, random: &mut Random) {
+    let all = random.chance(50);
+    let mut gone = vec![false; plan.items.len()];
+    for i in 0..plan.items.len() {
+        if plan.items[i].kind == HIDDEN {
+            let parent_gone = matches!(plan.items[i].parent, crate::plan::Link::Item(p) if gone[p]);
+            gone[i] = all || parent_gone || random.chance(30);
+        }
+    }
+    for i in (0..gone.len()).rev() {
+        if gone[i] {
+            plan.remove(i, 0);
+        }
+    }
+}
+
+fn board_for_faults(random: &mut Random) -> Made {
+    let most = *random.pick(&[20, 60, 120, 120]);
+    let mut shape = any_shape(random, most);
+    shape.items = shape.items.max(most / 2);
+    make(random, sha256, shape)
+}
+
+/// The case of a group and seed. The same seed gives the same case.
+pub fn case(makers: &Makers, group: Group, seed: u64) -> Case {
+    let random = &mut Random::new(seed.wrapping_mul(8).wrapping_add(group as u64));
+    let name = |what: &str| format!("{} {seed} ({what})", format!("{group:?}").to_lowercase());
+    match group {
+        Group::Sound => {
+            let shape = any_shape(random, *[15, 60, 150].get(seed as usize % 3).unwrap_or(&60));
+            let made = make(random, sha256, shape);
+            sound_case(name("sound"), &made, random)
+        }
+        Group::Faults => {
+            let fault = &makers.faults[seed as usize % makers.faults.len()];
+            loop {
+                let made = board_for_faults(random);
+                if let Some(faulty) = fault.apply(&made, random) {
+                    let known = Known::Refused(faulty.number, faulty.items);
+                    return faulty_case(name(&fault.reason), &made, &faulty.plan, known, random);
+                }
+            }
+        }
+        Group::Order => loop {
+            let fault = random.pick(&makers.faults);
+            let made = board_for_faults(random);
+            let Some(mut faulty) = fault.apply(&made, random) else { continue };
+            let Some(second) = spoil_more(&mut faulty, random) else { continue };
+            let first = if rank(second) < rank(faulty.number) { second } else { faulty.number };
+            let what = format!("{} with {second}", fault.reason);
+            let known = Known::Refused(first, faulty.items);
+            return faulty_case(name(&what), &made, &faulty.plan, known, random);
+        },
+        Group::Rules => {
+            let made = board_for_faults(random);
+            let mut plan = made.plan.clone();
+            damage_plan(&mut plan, random);
+            faulty_case(name("rules"), &made, &plan, Known::Nothing, random)
+        }
+        Group::Words => {
+            let made = board_for_faults(random);
+            let mut case = faulty_case(name("words"), &made, &made.plan, Known::Nothing, random);
+            if random.chance(2) {
+                case.words.resize(MAX_WORDS + random.between(1, 3), random.word());
+                case.known = Known::Refused(1, 0);
+            } else if random.chance(15) {
+                (case.words, case.verdicts) = no_board(random);
+            } else {
+                let mut laid = made.plan.lay(sha256);
+                damage_words(&mut laid, random);
+                (case.words, case.verdicts) = (laid.words, laid.verdicts);
+            }
+            case
+        }
+        Group::Long => long_case(&name, seed, random),
+    }
+}
+
+fn faulty_case(name: String, made: &Made, plan: &Plan, known: Known, random: &mut Random) -> Case {
+    let laid = plan.lay(sha256);
+    let other = sibling(made, random).lay(sha256);
+    Case {
+        name,
+        words: laid.words,
+        verdicts: laid.verdicts,
+        known,
+        other: (other.words, other.verdicts),
+        kept: random.chance(50),
+    }
+}
+
+/// A board at the limits: exact sizes, many items.
+pub fn long_shape(which: u64, random: &mut Random) -> Shape {
+    let (items, words) = match which % 4 {
+        0 => (MAX_ITEMS, None),
+        1 => (MAX_ITEMS, Some(MAX_WORDS)),
+        2 => (random.between(1_950, MAX_ITEMS), Some(MAX_WORDS)),
+        _ => (random.between(190, 260), Some(16_384)),
+    };
+    Shape { items, words, long: 20, voters: random.between(3, 300), extraction: random.chance(60) }
+}
+
+fn long_case(name: &dyn Fn(&str) -> String, seed: u64, random: &mut Random) -> Case {
+    let shape = long_shape(seed, random);
+    let made = make(random, sha256, shape);
+    let mut case = sound_case(name("long, sound"), &made, random);
+    let full = made.plan.items.len() == MAX_ITEMS;
+    match seed / 4 % 6 {
+        1 if full => {
+            // One item more than the limit, or something that looks like one.
+            let word = match random.below(4) {
+                0 => head(MAIN, TEXT, 0),
+                1 => random.word() >> 5,
+                2 => head(HIDDEN, TRACK, 9),
+                _ => head(MAIN, 99, 0),
+            };
+            case.words.pop();
+            case.words.push(word);
+            if random.chance(50) && case.words.len() + 60 < MAX_WORDS {
+                case.words.extend(random.words(50));
+            }
+            case.known = Known::Refused(1, MAX_ITEMS);
+            case.name = name("long, an item too many");
+        }
+        2 => {
+            let items = made.plan.items.len();
+            case.words.pop();
+            case.known = Known::Refused(4, items);
+            case.name = name("long, no closing word");
+        }
+        3 => {
+            // Over the word limit by one or more, whatever else is wrong.
+            let more = *random.pick(&[1, 2, 1000]);
+            case.words.resize(MAX_WORDS + more, random.word());
+            case.known = Known::Refused(1, 0);
+            case.name = name("long, a word too many");
+        }
+        4 => {
+            let mut plan = made.plan.clone();
+            damage_plan(&mut plan, random);
+            let laid = plan.lay(sha256);
+            (case.words, case.verdicts) = (laid.words, laid.verdicts);
+            case.known = Known::Nothing;
+            case.name = name("long, damaged");
+        }
+        5 => {
+            let at = random.between(case.words.len() / 2, case.words.len() - 2);
+            case.words[at] ^= 1 << random.below(32);
+            case.known = Known::Nothing;
+            case.name = name("long, a bit turned over");
+        }
+        _ => {}
+    }
+    case
+}
+
+// ---- the reference against what is known ----
+
+/// Audits a case with the reference and holds the answer against the making. Gives the number.
+pub fn check_known(case: &Case) -> Result<u32, String> {
+    let (mut index, mut ballots) = (vec![0xdead; INDEX_NEED + 5], vec![0xbeef; BALLOTS_NEED + 4]);
+    let report = audit(&case.words, &case.verdicts, &mut index, &mut ballots);
+    let fail = |what: &str| Err(format!("{}: the reference has {what} other than it was made", case.name));
+    match &case.known {
+        Known::Nothing => {}
+        Known::Refused(number, items) => {
+            if (report.number, report.items as usize) != (*number, *items) {
+                return Err(format!(
+                    "{}: made to be refused {number} at {items}, the reference says {} at {}",
+                    case.name, report.number, report.items
+                ));
+            }
+            let untouched = *number == 1 && *items == 0;
+            let (i, b) = if untouched { (0xdead, 0xbeef) } else { (0, 0) };
+            if index.iter().any(|&w| w != i) || ballots.iter().any(|&w| w != b) {
+                return fail("tables");
+            }
+            if report != crate::audit::refused(*number, *items) {
+                return fail("fields of a refusal");
+            }
+        }
+        Known::Sound(expected, places, end) => {
+            let weight: u64 = expected.ballots.iter().map(|row| u64::from(row[2])).sum();
+            if report.number != 0 {
+                return Err(format!("{}: made sound, refused {} at {}", case.name, report.number, report.items));
+            }
+            let counts = (report.items as usize, report.mains as usize, report.ballots as usize);
+            if counts != (expected.rows.len(), expected.mains, expected.ballots.len()) {
+                return fail("counts");
+            }
+            if report.weight != weight || report.end != *end {
+                return fail("weight or end address");
+            }
+            let mut rows: Vec<u32> = Vec::new();
+            for (row, &place) in expected.rows.iter().zip(places) {
+                rows.extend([place as u32, row[0], row[1], row[2]]);
+            }
+            rows.resize(index.len(), 0);
+            if index != rows {
+                return fail("index rows");
+            }
+            let mut rows: Vec<u32> = expected.ballots.concat();
+            rows.resize(ballots.len(), 0);
+            if ballots != rows {
+                return fail("ballot rows");
+            }
+        }
+    }
+    Ok(report.number)
+}
+
+/// Other hidden tracks and signatures never change what is reported of the main list.
+pub fn check_hidden_tracks(seed: u64) -> Result<(), String> {
+    let random = &mut Random::new(seed);
+    let shape = any_shape(random, 150);
+    let made = make(random, sha256, shape);
+    let mut plan = made.plan.clone();
+    remove_hidden(&mut plan, random);
+    let run = |plan: &Plan| {
+        let laid = plan.lay(sha256);
+        let (mut index, mut ballots) = (vec![0; INDEX_NEED], vec![0; BALLOTS_NEED]);
+        let report = audit(&laid.words, &laid.verdicts, &mut index, &mut ballots);
+        (report.number, report.mains, report.ballots, report.weight, report.end, ballots)
+    };
+    let (with, without) = (run(&made.plan), run(&plan));
+    if with.0 != 0 || with != without {
+        return Err(format!("hidden tracks, seed {seed}: the main list's report changes with them"));
+    }
+    Ok(())
+}
+
+// ---- an implementation against the reference ----
+
+const GUARD: usize = 8;
+
+/// A buffer with guard words on both sides, and what the reference makes of the same words.
+struct Lent {
+    guarded: Vec<u32>,
+    before: Vec<u32>,
+    reference: Vec<u32>,
+}
+
+impl Lent {
+    fn new(len: usize, random: &mut Random) -> Lent {
+        // Junk that differs from word to word, at little cost.
+        let mut word = random.word() | 1;
+        let guarded: Vec<u32> = (0..len + 2 * GUARD)
+            .map(|_| {
+                word = word.wrapping_mul(0x0019_660d).wrapping_add(0x3c6e_f35f);
+                word
+            })
+            .collect();
+        Lent { before: guarded.clone(), reference: guarded[GUARD..GUARD + len].to_vec(), guarded }
+    }
+
+    fn len(&self) -> usize {
+        self.reference.len()
+    }
+
+    fn pointer(&mut self) -> *mut u32 {
+        self.guarded[GUARD..].as_mut_ptr()
+    }
+
+    fn same(&self, what: &str) -> Result<(), String> {
+        let end = GUARD + self.len();
+        if self.guarded[..GUARD] != self.before[..GUARD] {
+            return Err(format!("a word before the {what} was written"));
+        }
+        if self.guarded[end..] != self.before[end..] {
+            return Err(format!("a word behind the {what} was written"));
+        }
+        let given = &self.guarded[GUARD..end];
+        match given.iter().zip(&self.reference).position(|(a, b)| a != b) {
+            None => Ok(()),
+            Some(at) => Err(format!(
+                "word {at} of the {what} ({} words) is {}, by the reference {}",
+                self.len(),
+                given[at],
+                self.reference[at]
+            )),
+        }
+    }
+}
+
+/// A length for a buffer that needs `need`: mostly enough, at times more, at times too short.
+fn lent_length(need: usize, random: &mut Random) -> usize {
+    match random.below(60) {
+        0 => need - 1,
+        1 => random.below(need),
+        2 => *random.pick(&[0, 1, need / 2]),
+        3..=14 => need + random.between(1, 9),
+        15..=17 => need + random.below(3_000),
+        _ => need,
+    }
+}
+
+fn answer_length(need: usize, random: &mut Random) -> usize {
+    match random.below(60) {
+        0 => random.below(need),
+        1 => need - 1,
+        2..=4 => need + random.between(1, 5),
+        _ => need,
+    }
+}
+
+/// Writes the reference's answer where the interface would.
+fn put(answer: &mut Lent, words: &[u32]) {
+    answer.reference[..words.len()].copy_from_slice(words);
+}
+
+fn result(entry: &str, given: bool, expected: bool) -> Result<(), String> {
+    if given == expected {
+        Ok(())
+    } else {
+        Err(format!("{entry} gives {given}, not {expected}"))
+    }
+}
+
+/// How often an entry gave each answer: by refusal number, or for comparing 20 apart, 21 same,
+/// 22 collision. 23: an answer buffer too short.
+pub type Tally = [usize; 24];
+
+pub fn check_audit(with: &Interface, case: &Case, random: &mut Random, tally: &mut Tally) -> Result<(), String> {
+    let mut index = Lent::new(lent_length(INDEX_NEED, random), random);
+    let mut ballots = Lent::new(lent_length(BALLOTS_NEED, random), random);
+    let mut answer = Lent::new(answer_length(AUDIT_ANSWER, random), random);
+    let enough = answer.len() >= AUDIT_ANSWER;
+    if enough {
+        let report = audit(&case.words, &case.verdicts, &mut index.reference, &mut ballots.reference);
+        put(&mut answer, &audit_words(&report));
+        tally[report.number as usize] += 1;
+    } else {
+        tally[23] += 1;
+    }
+    let (il, bl, al) = (index.len(), ballots.len(), answer.len());
+    let (words, verdicts) = (&case.words, &case.verdicts);
+    // Each pointer is of a live buffer of at least the length given with it.
+    #[rustfmt::skip]
+    let given = unsafe {
+        (with.audit)(
+            words.as_ptr(), words.len(), verdicts.as_ptr(), verdicts.len(),
+            index.pointer(), il, ballots.pointer(), bl, answer.pointer(), al)
+    };
+    result("audit", given, enough)?;
+    answer.same("audit's answer")?;
+    index.same("index table")?;
+    ballots.same("ballot table")
+}
+
+/// A number to ask for: mostly one that exists, at times none, past the end, or past 32 bits.
+fn asked(count: usize, random: &mut Random) -> usize {
+    match random.below(16) {
+        0 => 0,
+        1 => count + 1,
+        2 => usize::MAX,
+        3 => (1 << 32) + random.between(0, count),
+        4 => random.below(4_000),
+        5 => 1,
+        6 | 7 => count,
+        _ => random.between(1, count.max(1)),
+    }
+}
+
+/// A rough count of a board's items, to ask for numbers near it.
+fn item_count(case: &Case) -> usize {
+    case.verdicts.len() / VERDICT_WORDS
+}
+
+pub fn check_ancestry(with: &Interface, case: &Case, random: &mut Random, tally: &mut Tally) -> Result<(), String> {
+    let mut index = Lent::new(lent_length(INDEX_NEED, random), random);
+    let mut ballots = Lent::new(lent_length(BALLOTS_NEED, random), random);
+    let mut list = Lent::new(lent_length(LIST_NEED, random), random);
+    let mut answer = Lent::new(answer_length(ANCESTRY_ANSWER, random), random);
+    let number = asked(item_count(case), random);
+    let enough = answer.len() >= ANCESTRY_ANSWER;
+    let (words, verdicts) = (&case.words, &case.verdicts);
+    if enough {
+        let expected =
+            ancestry(words, verdicts, number, &mut index.reference, &mut ballots.reference, &mut list.reference);
+        put(&mut answer, &[expected.number, expected.count]);
+        tally[expected.number as usize] += 1;
+    } else {
+        tally[23] += 1;
+    }
+    let (il, bl, ll, al) = (index.len(), ballots.len(), list.len(), answer.len());
+    #[rustfmt::skip]
+    let given = unsafe {
+        (with.ancestry)(
+            words.as_ptr(), words.len(), verdicts.as_ptr(), verdicts.len(), number,
+            index.pointer(), il, ballots.pointer(), bl, list.pointer(), ll, answer.pointer(), al)
+    };
+    let told = |message: String| format!("ancestry of item {number}: {message}");
+    result("ancestry", given, enough).map_err(told)?;
+    answer.same("ancestry's answer").map_err(told)?;
+    list.same("list").map_err(told)?;
+    index.same("index table").map_err(told)?;
+    ballots.same("ballot table").map_err(told)
+}
+
+pub fn check_compare(with: &Interface, case: &Case, random: &mut Random, tally: &mut Tally) -> Result<(), String> {
+    let own = (&case.words, &case.verdicts);
+    let other = (&case.other.0, &case.other.1);
+    let (kept, later) = if case.kept { (own, other) } else { (other, own) };
+    // Often the number at which the kept board's end can stand.
+    let mains = |board: &(&Vec<u32>, &Vec<u32>)| main_count(board.0);
+    let number = if random.chance(50) { mains(&kept) } else { asked(mains(&later), random) };
+    let mut tables: Vec<Lent> = Vec::new();
+    for need in [INDEX_NEED, BALLOTS_NEED, INDEX_NEED, BALLOTS_NEED] {
+        // Four buffers: one too short is enough now and then.
+        let len = if random.chance(60) { need } else { lent_length(need, random) };
+        tables.push(Lent::new(len, random));
+    }
+    let mut answer = Lent::new(answer_length(COMPARE_ANSWER, random), random);
+    let enough = answer.len() >= COMPARE_ANSWER;
+    let [ki, kb, li, lb] = &mut tables[..] else { unreachable!() };
+    if enough {
+        let expected = compare(
+            Board { words: kept.0, verdicts: kept.1 },
+            Board { words: later.0, verdicts: later.1 },
+            number,
+            Tables { index: &mut ki.reference, ballots: &mut kb.reference },
+            Tables { index: &mut li.reference, ballots: &mut lb.reference },
+        );
+        let words = compare_words(&expected);
+        put(&mut answer, &words);
+        tally[if words[0] == 0 { words[2] as usize } else { 19 + words[0] as usize }] += 1;
+    } else {
+        tally[23] += 1;
+    }
+    let lengths = [ki.len(), kb.len(), li.len(), lb.len()];
+    let al = answer.len();
+    #[rustfmt::skip]
+    let given = unsafe {
+        (with.compare)(
+            kept.0.as_ptr(), kept.0.len(), kept.1.as_ptr(), kept.1.len(),
+            later.0.as_ptr(), later.0.len(), later.1.as_ptr(), later.1.len(), number,
+            ki.pointer(), lengths[0], kb.pointer(), lengths[1],
+            li.pointer(), lengths[2], lb.pointer(), lengths[3], answer.pointer(), al)
+    };
+    let told = |message: String| format!("compare at main {number}: {message}");
+    result("compare", given, enough).map_err(told)?;
+    answer.same("comparison's answer").map_err(told)?;
+    ki.same("kept index table").map_err(told)?;
+    kb.same("kept ballot table").map_err(told)?;
+    li.same("later index table").map_err(told)?;
+    lb.same("later ballot table").map_err(told)
+}
+
+/// The main items by a walk over the heads, as far as it goes.
+fn main_count(words: &[u32]) -> usize {
+    let (mut place, mut mains) = (0, 0);
+    while place < words.len() && kind(words[place]) != CLOSING {
+        mains += usize::from(kind(words[place]) == MAIN);
+        place += count(words[place]) + FRAME;
+    }
+    mains
+}

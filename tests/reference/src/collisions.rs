@@ -1,0 +1,154 @@
+//! Collisions, with a hash so weak that they can be made: what SHA-256 will not show.
+
+use crate::audit::{audit_with, History};
+use crate::compare::{compare_with, Board, Comparison, Tables};
+use crate::format::*;
+use crate::plan::{Laid, Plan};
+use crate::random::Random;
+use crate::sound::{any_shape, make, Made};
+
+/// A hash of 13 bits. Zero is no value of it, so that no item has the address zeros.
+pub fn weak_hash(message: &[u32]) -> [u32; 8] {
+    let mut sum: u32 = 0x9e37_79b9;
+    for &word in message {
+        sum = (sum ^ word).wrapping_mul(0x85eb_ca6b).rotate_left(13);
+    }
+    sum ^= message.len() as u32;
+    sum = sum.wrapping_mul(0xc2b2_ae35);
+    [(sum >> 19) + 1, 0, 0, 0, 0, 0, 0, 7]
+}
+
+fn run(laid: &Laid) -> (u32, Option<History>) {
+    let mut index = vec![3; INDEX_NEED];
+    let mut ballots = vec![4; BALLOTS_NEED];
+    let (report, history) = audit_with(weak_hash, &laid.words, &laid.verdicts, &mut index, &mut ballots);
+    (report.number, history)
+}
+
+fn compare_laid(kept: &Laid, later: &Laid, main_number: usize) -> Comparison {
+    let (mut i1, mut b1) = (vec![1; INDEX_NEED], vec![1; BALLOTS_NEED]);
+    let (mut i2, mut b2) = (vec![2; INDEX_NEED], vec![2; BALLOTS_NEED]);
+    compare_with(
+        weak_hash,
+        Board { words: &kept.words, verdicts: &kept.verdicts },
+        Board { words: &later.words, verdicts: &later.verdicts },
+        main_number,
+        Tables { index: &mut i1, ballots: &mut b1 },
+        Tables { index: &mut i2, ballots: &mut b2 },
+    )
+}
+
+/// A board that is accepted under the weak hash.
+fn accepted(random: &mut Random) -> (Made, Laid) {
+    loop {
+        let shape = any_shape(random, 40);
+        let made = make(random, weak_hash, shape);
+        let laid = made.plan.lay(weak_hash);
+        if run(&laid).0 == 0 {
+            return (made, laid);
+        }
+    }
+}
+
+/// Changes the last content word of the item at a position until its address is `address`.
+fn forge(plan: &mut Plan, at: usize, address: [u32; 8], random: &mut Random) -> Option<Laid> {
+    let laid = plan.lay(weak_hash);
+    let place = laid.places[at];
+    let last = plan.items[at].content.len() - 1;
+    let original = plan.items[at].content[last];
+    let mut hashed = laid.words[place..place + last + 1 + HASHED_FRAME].to_vec();
+    for _ in 0..100_000 {
+        let word = random.word();
+        hashed[1 + last] = word;
+        if word != original && weak_hash(&hashed) == address {
+            plan.items[at].content[last] = word;
+            return Some(plan.lay(weak_hash));
+        }
+    }
+    None
+}
+
+/// The hashed words of each main item.
+fn main_words<'a>(laid: &'a Laid, plan: &Plan) -> Vec<&'a [u32]> {
+    let mut mains = Vec::new();
+    for (spec, &place) in plan.items.iter().zip(&laid.places) {
+        if spec.kind == MAIN {
+            mains.push(&laid.words[place..place + spec.content.len() + HASHED_FRAME]);
+        }
+    }
+    mains
+}
+
+/// Demand 3, told from the boards' hashed words alone.
+fn judge(kept: &[&[u32]], later: &[&[u32]], b: usize) -> Comparison {
+    let a = kept.len();
+    if weak_hash(kept[a - 1]) != weak_hash(later[b - 1]) {
+        return Comparison::Apart;
+    }
+    if a == b && kept == &later[..b] {
+        return Comparison::Same;
+    }
+    let mut d = 0;
+    while kept[a - 1 - d] == later[b - 1 - d] {
+        d += 1;
+    }
+    assert_eq!(weak_hash(kept[a - 1 - d]), weak_hash(later[b - 1 - d]), "a collision has one address");
+    Comparison::Collision { kept: (a - d) as u32, later: (b - d) as u32 }
+}
+
+/// What came out of `check`.
+#[derive(Default, Debug)]
+pub struct Seen {
+    pub apart: usize,
+    pub same: usize,
+    pub collision: usize,
+    pub uneven: usize,
+}
+
+/// One pair of boards with a forged item, compared at every main item.
+pub fn check(seed: u64, seen: &mut Seen) -> Result<(), String> {
+    let random = &mut Random::new(seed);
+    let (made, kept) = accepted(random);
+    let texts: Vec<usize> = (0..made.plan.items.len())
+        .filter(|&i| matches!(made.plan.items[i].code, TEXT | CONTEST) && made.plan.items[i].content.len() > 1)
+        .collect();
+    let mut later_plan = made.plan.clone();
+    let mut later = kept.clone();
+    if !texts.is_empty() {
+        let at = *random.pick(&texts);
+        // In half of the cases an item is added before the forged one, so that the lengths differ.
+        let position = if random.chance(50) {
+            let mut added = later_plan.items[at].clone();
+            added.code = TEXT;
+            added.content = random.words(3);
+            later_plan.insert(at, added);
+            later_plan.items[at + 1].parent = crate::plan::Link::Item(at);
+            at + 1
+        } else {
+            at
+        };
+        let Some(forged) = forge(&mut later_plan, position, kept.addresses[at], random) else { return Ok(()) };
+        later = forged;
+    }
+    if run(&later).0 != 0 {
+        return Ok(());
+    }
+    let (kept_mains, later_mains) = (main_words(&kept, &made.plan), main_words(&later, &later_plan));
+    for b in 1..=later_mains.len() {
+        let expected = judge(&kept_mains, &later_mains, b);
+        let given = compare_laid(&kept, &later, b);
+        if given != expected {
+            return Err(format!("collision seed {seed}, main {b}: expected {expected:?}, given {given:?}"));
+        }
+        match given {
+            Comparison::Apart => seen.apart += 1,
+            Comparison::Same => seen.same += 1,
+            Comparison::Collision { kept, later } => {
+                seen.collision += 1;
+                seen.uneven += usize::from(kept != later);
+            }
+            Comparison::Refused { .. } => return Err(format!("collision seed {seed}: refused")),
+        }
+    }
+    Ok(())
+}

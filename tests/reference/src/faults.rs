@@ -1,0 +1,1401 @@
+//! Faulty boards: a sound board changed in one place, all else kept right, so that the check
+//! in question is the first to fail. Each fault says which refusal it must give, and where.
+
+use crate::format::*;
+use crate::plan::{Address, Link, Plan, Previous, Spec, GOOD};
+use crate::random::Random;
+use crate::sha256::sha256;
+use crate::sound::Made;
+
+/// The changed board and how many items pass.
+type Change = Option<(Plan, usize)>;
+
+/// A way to spoil a board. `code` is the type it is about, or 0.
+pub struct Fault {
+    pub number: u32,
+    pub reason: String,
+    code: u32,
+    change: fn(&Made, u32, &mut Random) -> Change,
+}
+
+pub struct Faulty {
+    pub number: u32,
+    pub items: usize,
+    pub plan: Plan,
+}
+
+impl Fault {
+    /// The fault done to a board; none where the board has no place for it.
+    pub fn apply(&self, made: &Made, random: &mut Random) -> Option<Faulty> {
+        let (plan, items) = (self.change)(made, self.code, random)?;
+        Some(Faulty { number: self.number, items, plan })
+    }
+}
+
+// ---- what stands before a position ----
+
+fn items(made: &Made) -> &[Spec] {
+    &made.plan.items
+}
+
+/// A random item of a type.
+fn pick(made: &Made, code: u32, random: &mut Random) -> Option<usize> {
+    pick_where(made, random, |_, item| item.code == code)
+}
+
+fn pick_where(made: &Made, random: &mut Random, fits: impl Fn(usize, &Spec) -> bool) -> Option<usize> {
+    let all: Vec<usize> = (0..items(made).len()).filter(|&i| fits(i, &items(made)[i])).collect();
+    if all.is_empty() {
+        None
+    } else {
+        Some(*random.pick(&all))
+    }
+}
+
+fn last_main(made: &Made, before: usize) -> Option<usize> {
+    (0..before).rev().find(|&i| items(made)[i].kind == MAIN)
+}
+
+fn latest_config(made: &Made, before: usize) -> usize {
+    (0..before).rev().find(|&i| is_config(items(made)[i].code)).expect("a genesis stands before")
+}
+
+fn first_of(made: &Made, code: u32) -> Option<usize> {
+    items(made).iter().position(|s| s.code == code)
+}
+
+/// The item's session's position.
+fn session_of(made: &Made, position: usize) -> usize {
+    made.expected.rows[position][1] as usize - 1
+}
+
+fn is_live(made: &Made, session: usize, before: usize) -> bool {
+    let voter = items(made)[session].content[0];
+    !items(made)[session + 1..before].iter().any(|s| s.code == SESSION && s.content[0] == voter)
+}
+
+/// The rounds that stand before a position: number, contests, start, end.
+fn rounds(made: &Made, before: usize) -> Vec<(u32, u32, u64, u64)> {
+    let mut standing: Vec<(u32, u32, u64, u64)> = Vec::new();
+    for s in items(made)[..before].iter().filter(|s| s.code == ROUND) {
+        standing.retain(|r| r.0 != s.content[0]);
+        standing.push((s.content[0], s.content[1], time(&s.content, 2), time(&s.content, 4)));
+    }
+    standing
+}
+
+fn open(made: &Made, before: usize, at: u64) -> Vec<(u32, u32, u64, u64)> {
+    rounds(made, before).into_iter().filter(|r| r.2 <= at && at < r.3).collect()
+}
+
+fn contests(made: &Made, before: usize) -> u32 {
+    items(made)[..before].iter().filter(|s| s.code == CONTEST).fold(0, |set, s| set | 1 << s.content[0])
+}
+
+fn administrator(made: &Made) -> [u32; 8] {
+    eight(&items(made)[0].content, 1)
+}
+
+fn ballot_box(made: &Made) -> [u32; 8] {
+    eight(&items(made)[0].content, 9)
+}
+
+fn authorizer(made: &Made, before: usize) -> Option<[u32; 8]> {
+    let latest = items(made)[..before].iter().rev().find(|s| s.code == AUTHORIZER)?;
+    Some(eight(&latest.content, 1))
+}
+
+/// A position after genesis and not after the first intent, where config may stand.
+fn config_position(made: &Made, from: usize, random: &mut Random) -> Option<usize> {
+    let end = first_of(made, INTENT).unwrap_or(items(made).len());
+    if from > end {
+        None
+    } else {
+        Some(random.between(from, end))
+    }
+}
+
+/// A right item to put before a position; its content is the caller's affair.
+fn new_item(made: &Made, code: u32, before: usize, parent: Link, content: Vec<u32>, key: [u32; 8]) -> Spec {
+    Spec {
+        kind: kind_of(code).expect("a listed type"),
+        code,
+        count: None,
+        content,
+        parent,
+        previous: Previous::Right,
+        time: last_main(made, before).map_or(0, |i| items(made)[i].time),
+        signature: [0x5151_5151; 16],
+        address: Address::Right,
+        verdict: GOOD,
+        key,
+    }
+}
+
+fn new_round(made: &Made, before: usize, number: u32, set: u32, start: u64, end: u64) -> Spec {
+    let words = [number, set, (start >> 32) as u32, start as u32, (end >> 32) as u32, end as u32];
+    let parent = Link::Item(latest_config(made, before));
+    new_item(made, ROUND, before, parent, words.to_vec(), administrator(made))
+}
+
+/// Content that fits a type by its count and its own ranges.
+fn plain_content(made: &Made, code: u32, before: usize, random: &mut Random) -> Vec<u32> {
+    let mut content = random.words(match code {
+        GENESIS => 17,
+        TEXT => 5,
+        CONTEST => 3,
+        THRESHOLD => 10,
+        AUTHORIZER | VOTER_COMMITMENT | SERVER_COMMITMENT => 9,
+        ROUND => 6,
+        SESSION => 19,
+        BALLOT => 18,
+        EXTRACTION | VERIFIER => 8,
+        CONFIRMATION => 17,
+        VOTER_OPENING | SERVER_OPENING => 4,
+        _ => 0,
+    });
+    let defined = contests(made, before).max(1);
+    match code {
+        GENESIS => content = items(made)[0].content.clone(),
+        CONTEST => content[0] &= 31,
+        THRESHOLD => content[..2].copy_from_slice(&[3, 2]),
+        AUTHORIZER => content[0] = 1,
+        ROUND => content = vec![content[0] & 15, random.subset(defined), 0, 0, 1, 0],
+        SESSION => {
+            content[1] |= 1;
+            content[18] = random.subset(defined);
+        }
+        VOTER_COMMITMENT | SERVER_COMMITMENT => content[8] &= 0xff00_0000,
+        BALLOT => {
+            content[0] = random.bit(defined);
+            content[17] &= 0xffff_0000;
+        }
+        CONFIRMATION => content[0] = 1,
+        _ => {}
+    }
+    content
+}
+
+// ---- changes that several faults share ----
+
+fn change_item(made: &Made, at: usize, edit: impl FnOnce(&mut Spec)) -> Change {
+    let mut plan = made.plan.clone();
+    edit(&mut plan.items[at]);
+    Some((plan, at))
+}
+
+fn change_content(
+    made: &Made,
+    code: u32,
+    random: &mut Random,
+    edit: impl FnOnce(&mut Vec<u32>, &mut Random),
+) -> Change {
+    let at = pick(made, code, random)?;
+    let mut plan = made.plan.clone();
+    edit(&mut plan.items[at].content, random);
+    Some((plan, at))
+}
+
+fn insert(made: &Made, at: usize, spec: Spec) -> Change {
+    let mut plan = made.plan.clone();
+    plan.insert(at, spec);
+    Some((plan, at))
+}
+
+fn any(made: &Made, random: &mut Random) -> usize {
+    random.below(items(made).len())
+}
+
+// ---- 3: blank ----
+
+fn no_words(made: &Made, _: u32, random: &mut Random) -> Change {
+    let mut plan = made.plan.clone();
+    plan.cut = Some((0, 0));
+    if random.chance(50) {
+        plan.verdicts_cut = Some(0);
+    }
+    Some((plan, 0))
+}
+
+fn closing_first(made: &Made, _: u32, random: &mut Random) -> Change {
+    let mut plan = made.plan.clone();
+    let number = *random.pick(&[0, 1, 0x0fff_ffff, plan.items.len() as u32]);
+    plan.head = Some((0, CLOSING << 28 | number));
+    if random.chance(50) {
+        plan.cut = Some((0, 1));
+    }
+    Some((plan, 0))
+}
+
+// ---- 4: torn ----
+
+fn cut(made: &Made, _: u32, random: &mut Random) -> Change {
+    let at = any(made, random);
+    let length = items(made)[at].content.len() + FRAME;
+    let mut plan = made.plan.clone();
+    plan.cut = Some((at, random.between(1, length - 1)));
+    Some((plan, at))
+}
+
+fn cut_after_head(made: &Made, _: u32, random: &mut Random) -> Change {
+    let at = any(made, random);
+    let mut plan = made.plan.clone();
+    plan.cut = Some((at, 1));
+    Some((plan, at))
+}
+
+fn one_short(made: &Made, _: u32, random: &mut Random) -> Change {
+    let at = any(made, random);
+    let mut plan = made.plan.clone();
+    plan.cut = Some((at, items(made)[at].content.len() + FRAME - 1));
+    Some((plan, at))
+}
+
+fn no_closing_word(made: &Made, _: u32, random: &mut Random) -> Change {
+    let mut plan = made.plan.clone();
+    let passed = random.between(1, items(made).len());
+    plan.items.truncate(passed);
+    plan.closing = Some(None);
+    Some((plan, passed))
+}
+
+// ---- 5: stranger ----
+
+fn unlisted(random: &mut Random) -> u32 {
+    loop {
+        let code = if random.chance(70) { random.below(60) as u32 } else { random.word() & 0xfff };
+        if kind_of(code).is_none() {
+            return code;
+        }
+    }
+}
+
+fn strange_kind(made: &Made, _: u32, random: &mut Random) -> Change {
+    let kind = *random.pick(&[0, 3, 4, 5, 6, 7, 8, 9, 10, 11, 12, 13, 14]);
+    let at = any(made, random);
+    change_item(made, at, |s| s.kind = kind)
+}
+
+fn strange_main(made: &Made, _: u32, random: &mut Random) -> Change {
+    let (at, code) = (any(made, random), unlisted(random));
+    change_item(made, at, |s| (s.kind, s.code) = (MAIN, code))
+}
+
+fn strange_hidden(made: &Made, _: u32, random: &mut Random) -> Change {
+    let (at, code) = (any(made, random), unlisted(random));
+    change_item(made, at, |s| (s.kind, s.code) = (HIDDEN, code))
+}
+
+fn hidden_as_main(made: &Made, _: u32, random: &mut Random) -> Change {
+    let at = pick_where(made, random, |_, s| s.kind == HIDDEN)?;
+    change_item(made, at, |s| s.kind = MAIN)
+}
+
+fn main_as_hidden(made: &Made, _: u32, random: &mut Random) -> Change {
+    let at = pick_where(made, random, |_, s| s.kind == MAIN)?;
+    change_item(made, at, |s| s.kind = HIDDEN)
+}
+
+fn strange_head_last(made: &Made, _: u32, random: &mut Random) -> Change {
+    let at = any(made, random);
+    let mut plan = made.plan.clone();
+    plan.head = Some((at, head(MAIN, unlisted(random), random.below(70))));
+    plan.cut = Some((at, 1));
+    Some((plan, at))
+}
+
+// ---- 6: misfit ----
+
+fn misfit_count(code: u32, random: &mut Random) -> usize {
+    loop {
+        let n = match random.below(4) {
+            0 => random.between(0, 70),
+            1 => random.between(0, 600),
+            2 => *random.pick(&[0, 7, 9, 10, 11, 16, 18, 65, 66, 257, 1 + 17 * 33, 1 + 16 * 33, 65535]),
+            _ => random.below(65536),
+        };
+        if !count_fits(code, n) {
+            return n;
+        }
+    }
+}
+
+/// Only the head's count is wrong.
+fn misfit_head(made: &Made, code: u32, random: &mut Random) -> Change {
+    let at = pick(made, code, random)?;
+    let n = misfit_count(code, random);
+    change_item(made, at, |s| s.count = Some(n))
+}
+
+/// The content has the wrong count too, and the address is right for it.
+fn misfit_content(made: &Made, code: u32, random: &mut Random) -> Change {
+    let at = pick(made, code, random)?;
+    let n = misfit_count(code, random);
+    let content = random.words(n);
+    change_item(made, at, |s| s.content = content)
+}
+
+fn misfit_head_last(made: &Made, code: u32, random: &mut Random) -> Change {
+    let at = pick(made, code, random)?;
+    let mut plan = made.plan.clone();
+    plan.items[at].count = Some(misfit_count(code, random));
+    plan.cut = Some((at, 1));
+    Some((plan, at))
+}
+
+// ---- 7: false address ----
+
+fn address_flipped(made: &Made, code: u32, random: &mut Random) -> Change {
+    let at = pick(made, code, random)?;
+    let bit = random.below(256);
+    change_item(made, at, |s| s.address = Address::Flipped(bit))
+}
+
+fn address_wrong(made: &Made, address: Address, at: usize) -> Change {
+    change_item(made, at, |s| s.address = address)
+}
+
+fn address_with_signature(made: &Made, _: u32, random: &mut Random) -> Change {
+    address_wrong(made, Address::WithSignature, any(made, random))
+}
+
+fn address_without_head(made: &Made, _: u32, random: &mut Random) -> Change {
+    address_wrong(made, Address::WithoutHead, any(made, random))
+}
+
+fn address_without_count(made: &Made, _: u32, random: &mut Random) -> Change {
+    let at = pick_where(made, random, |_, s| !s.content.is_empty())?;
+    address_wrong(made, Address::WithoutCount, at)
+}
+
+fn address_without_time(made: &Made, _: u32, random: &mut Random) -> Change {
+    address_wrong(made, Address::WithoutTime, any(made, random))
+}
+
+fn address_zeros(made: &Made, _: u32, random: &mut Random) -> Change {
+    address_wrong(made, Address::Words(ZEROS), any(made, random))
+}
+
+/// A hashed word is changed after hashing.
+fn changed_after_hashing(made: &Made, at: usize, edit: impl FnOnce(&mut Spec)) -> Change {
+    let address = made.plan.lay(sha256).addresses[at];
+    change_item(made, at, |s| {
+        edit(s);
+        s.address = Address::Words(address);
+    })
+}
+
+fn content_changed(made: &Made, _: u32, random: &mut Random) -> Change {
+    let at = pick_where(made, random, |_, s| !s.content.is_empty())?;
+    let word = random.below(items(made)[at].content.len());
+    let bit = random.below(32);
+    changed_after_hashing(made, at, |s| s.content[word] ^= 1 << bit)
+}
+
+fn parent_changed(made: &Made, _: u32, random: &mut Random) -> Change {
+    let (at, words) = (any(made, random), random.eight());
+    changed_after_hashing(made, at, |s| s.parent = Link::Words(words))
+}
+
+fn previous_changed(made: &Made, _: u32, random: &mut Random) -> Change {
+    let (at, words) = (any(made, random), random.eight());
+    changed_after_hashing(made, at, |s| s.previous = Previous::Words(words))
+}
+
+fn time_changed(made: &Made, _: u32, random: &mut Random) -> Change {
+    let (at, bit) = (any(made, random), random.below(64));
+    changed_after_hashing(made, at, |s| s.time ^= 1 << bit)
+}
+
+/// A cast made a spoil, or a spoil a cast, after hashing.
+fn decision_changed(made: &Made, _: u32, random: &mut Random) -> Change {
+    let at = pick_where(made, random, |_, s| s.code == CAST || s.code == SPOIL)?;
+    changed_after_hashing(made, at, |s| s.code = CAST + SPOIL - s.code)
+}
+
+// ---- 8: broken history ----
+
+fn previous_random(made: &Made, code: u32, random: &mut Random) -> Change {
+    let at = pick(made, code, random)?;
+    let words = random.eight();
+    change_item(made, at, |s| s.previous = Previous::Words(words))
+}
+
+/// One bit of a right previous is turned over.
+fn previous_flipped(made: &Made, _: u32, random: &mut Random) -> Change {
+    let at = any(made, random);
+    let laid = made.plan.lay(sha256);
+    let mut words = eight(&laid.words, laid.places[at] + 1 + items(made)[at].content.len() + 8);
+    words[random.below(8)] ^= 1 << random.below(32);
+    change_item(made, at, |s| s.previous = Previous::Words(words))
+}
+
+fn previous_zeros(made: &Made, _: u32, random: &mut Random) -> Change {
+    let at = pick_where(made, random, |i, _| i > 0)?;
+    change_item(made, at, |s| s.previous = Previous::Words(ZEROS))
+}
+
+/// A main item that names the hidden item before it.
+fn previous_hidden(made: &Made, _: u32, random: &mut Random) -> Change {
+    let at = pick_where(made, random, |i, s| s.kind == MAIN && i > 0 && items(made)[i - 1].kind == HIDDEN)?;
+    change_item(made, at, |s| s.previous = Previous::Item(at - 1))
+}
+
+fn previous_two_back(made: &Made, _: u32, random: &mut Random) -> Change {
+    let at = pick_where(made, random, |i, s| s.kind == MAIN && made.expected.rows[i][2] >= 2)?;
+    let before = last_main(made, last_main(made, at)?)?;
+    change_item(made, at, |s| s.previous = Previous::Item(before))
+}
+
+/// A main item that names its parent, which is not the main item before it.
+fn previous_parent(made: &Made, _: u32, random: &mut Random) -> Change {
+    let at = pick_where(made, random, |i, s| {
+        s.kind == MAIN && i > 0 && last_main(made, i) != Some(made.expected.rows[i][0] as usize - 1)
+    })?;
+    let parent = made.expected.rows[at][0] as usize - 1;
+    change_item(made, at, |s| s.previous = Previous::Item(parent))
+}
+
+/// A hidden item that names an item which is not its parent.
+fn hidden_previous(made: &Made, random: &mut Random, other: impl Fn(usize) -> Option<usize>) -> Change {
+    let parent = |i: usize| made.expected.rows[i][0] as usize - 1;
+    let at = pick_where(made, random, |i, s| s.kind == HIDDEN && other(i).is_some_and(|o| o != parent(i)))?;
+    let named = other(at)?;
+    change_item(made, at, |s| s.previous = Previous::Item(named))
+}
+
+fn hidden_previous_last_main(made: &Made, _: u32, random: &mut Random) -> Change {
+    hidden_previous(made, random, |i| last_main(made, i))
+}
+
+fn hidden_previous_item_before(made: &Made, _: u32, random: &mut Random) -> Change {
+    hidden_previous(made, random, |i| i.checked_sub(1))
+}
+
+/// A hidden item whose parent is unknown and whose previous differs from it.
+fn hidden_unknown_parent_and_previous(made: &Made, _: u32, random: &mut Random) -> Change {
+    let at = pick_where(made, random, |_, s| s.kind == HIDDEN)?;
+    let (parent, previous) = (random.eight(), random.eight());
+    change_item(made, at, |s| {
+        s.parent = Link::Words(parent);
+        s.previous = Previous::Words(previous);
+    })
+}
+
+/// A hidden first item, its previous not its parent.
+fn hidden_first_previous(made: &Made, _: u32, random: &mut Random) -> Change {
+    let code = *random.pick(&[TRACK, VERIFIER, VOTER_OPENING, SERVER_OPENING]);
+    let content = plain_content(made, code, 0, random);
+    let mut spec = new_item(made, code, 0, Link::Words(random.eight()), content, ballot_box(made));
+    spec.previous = Previous::Words(*random.pick(&[ZEROS, [1; 8]]));
+    insert(made, 0, spec)
+}
+
+// ---- 9: orphan ----
+
+fn parent_unknown(made: &Made, code: u32, random: &mut Random) -> Change {
+    let at = pick(made, code, random)?;
+    let words = random.eight();
+    change_item(made, at, |s| s.parent = Link::Words(words))
+}
+
+fn parent_flipped(made: &Made, code: u32, random: &mut Random) -> Change {
+    let at = pick(made, code, random)?;
+    let laid = made.plan.lay(sha256);
+    let mut words = eight(&laid.words, laid.places[at] + 1 + items(made)[at].content.len());
+    words[random.below(8)] ^= 1 << random.below(32);
+    change_item(made, at, |s| s.parent = Link::Words(words))
+}
+
+fn parent_zeros(made: &Made, code: u32, random: &mut Random) -> Change {
+    let at = pick(made, code, random)?;
+    change_item(made, at, |s| s.parent = Link::Zeros)
+}
+
+fn parent_item(made: &Made, code: u32, random: &mut Random, fits: impl Fn(usize, &Spec) -> bool) -> Change {
+    let at = pick(made, code, random)?;
+    let possible: Vec<usize> = (0..at).filter(|&i| fits(i, &items(made)[i])).collect();
+    if possible.is_empty() {
+        return None;
+    }
+    let parent = *random.pick(&possible);
+    if Link::Item(parent) == items(made)[at].parent {
+        return None;
+    }
+    change_item(made, at, |s| s.parent = Link::Item(parent))
+}
+
+fn parent_older_config(made: &Made, code: u32, random: &mut Random) -> Change {
+    parent_item(made, code, random, |_, s| is_config(s.code))
+}
+
+fn parent_no_config(made: &Made, code: u32, random: &mut Random) -> Change {
+    parent_item(made, code, random, |_, s| s.kind == MAIN && !is_config(s.code))
+}
+
+fn parent_hidden(made: &Made, code: u32, random: &mut Random) -> Change {
+    parent_item(made, code, random, |_, s| s.kind == HIDDEN)
+}
+
+fn parent_main(made: &Made, code: u32, random: &mut Random) -> Change {
+    parent_item(made, code, random, |_, s| s.kind == MAIN)
+}
+
+/// An item in the right pool, of another type than the listed one.
+fn parent_other_type(made: &Made, code: u32, random: &mut Random) -> Change {
+    let Parent::Type(listed) = parent_of(code) else { return None };
+    let pool = if code <= TRACK { MAIN } else { HIDDEN };
+    parent_item(made, code, random, |_, s| s.kind == pool && s.code != listed)
+}
+
+/// A genesis whose parent is not zeros, first or second.
+fn genesis_parent(made: &Made, _: u32, random: &mut Random) -> Change {
+    let end = items(made).len();
+    let at = random.between(1, end);
+    let content = items(made)[0].content.clone();
+    insert(made, at, new_item(made, GENESIS, at, Link::Item(random.below(at)), content, administrator(made)))
+}
+
+/// A board that begins with another type. Its parent is anything.
+fn first_is(made: &Made, code: u32, random: &mut Random) -> Change {
+    let content = plain_content(made, code, 0, random);
+    let parent = if random.chance(50) { Link::Zeros } else { Link::Words(random.eight()) };
+    insert(made, 0, new_item(made, code, 0, parent, content, administrator(made)))
+}
+
+/// A hidden item that stands before its parent.
+fn before_its_parent(made: &Made, _: u32, random: &mut Random) -> Change {
+    let at = pick_where(made, random, |i, s| {
+        s.kind == HIDDEN && s.code != TRACK && items(made)[made.expected.rows[i][0] as usize - 1].kind == HIDDEN
+    })?;
+    let parent = made.expected.rows[at][0] as usize - 1;
+    let address = made.plan.lay(sha256).addresses[parent];
+    let mut spec = items(made)[at].clone();
+    spec.parent = Link::Words(address);
+    insert(made, parent, spec)
+}
+
+// ---- 10: backward clock ----
+
+fn backward(made: &Made, code: u32, random: &mut Random) -> Change {
+    let at = pick(made, code, random)?;
+    let bound = if items(made)[at].kind == MAIN {
+        items(made)[last_main(made, at)?].time
+    } else {
+        items(made)[made.expected.rows[at][0] as usize - 1].time
+    };
+    if bound == 0 {
+        return None;
+    }
+    let time = match random.below(4) {
+        0 => 0,
+        1 if bound >> 32 > 0 => bound - (1 << 32),
+        // The high word less, the low word more.
+        2 if bound >> 32 > 0 => ((bound >> 32) - 1) << 32 | 0xffff_ffff,
+        _ => bound - 1,
+    };
+    change_item(made, at, |s| s.time = time)
+}
+
+// ---- 11: out of phase ----
+
+/// An item that passes all before 11, after an intent.
+fn after_intent(made: &Made, code: u32, random: &mut Random) -> Change {
+    let intent = first_of(made, INTENT)?;
+    let at = random.between(intent + 1, items(made).len());
+    let parent = match parent_of(code) {
+        Parent::Zeros => Link::Zeros,
+        Parent::LatestConfig => Link::Item(latest_config(made, at)),
+        Parent::Type(listed) => Link::Item(pick(made, listed, random)?),
+    };
+    let content = plain_content(made, code, at, random);
+    insert(made, at, new_item(made, code, at, parent, content, administrator(made)))
+}
+
+/// The end of a round, or the end of time, with no round open.
+fn late(made: &Made, code: u32, random: &mut Random) -> Change {
+    let at = pick(made, code, random)?;
+    let bound = items(made)[last_main(made, at)?].time;
+    let mut times: Vec<u64> = rounds(made, at).iter().map(|r| r.3).collect();
+    times.retain(|&t| t >= bound && open(made, at, t).is_empty());
+    if times.is_empty() || random.chance(10) {
+        times = vec![u64::MAX];
+    }
+    let time = *random.pick(&times);
+    change_item(made, at, |s| s.time = time)
+}
+
+/// Every round that is open is replaced by one that is over or not yet begun.
+fn replaced(made: &Made, code: u32, random: &mut Random) -> Change {
+    let at = pick(made, code, random)?;
+    let time = items(made)[at].time;
+    let mut plan = made.plan.clone();
+    let mut inserted = 0;
+    for (number, set, start, _) in open(made, at, time) {
+        let early = time == 0 || random.chance(50);
+        let (start, end) = if early { (time + 1, time + 2) } else { (start.min(time - 1), time) };
+        let mut round = new_round(made, at, number, set, start, end);
+        if inserted > 0 {
+            round.parent = Link::Item(at + inserted - 1);
+        }
+        plan.insert(at + inserted, round);
+        inserted += 1;
+    }
+    let item = &mut plan.items[at + inserted];
+    if code == SESSION {
+        item.parent = Link::Item(at + inserted - 1);
+    }
+    Some((plan, at + inserted))
+}
+
+/// The config without any item of a type; the first item that needs one.
+fn without(made: &Made, code: u32, needs: impl Fn(u32) -> bool) -> Change {
+    let mut plan = made.plan.clone();
+    let needy = plan.items.iter().position(|s| needs(s.code))?;
+    let mut removed = 0;
+    for at in (0..needy).rev() {
+        if plan.items[at].code == code {
+            plan.remove(at, latest_config(made, at));
+            removed += 1;
+        }
+    }
+    if removed == 0 {
+        return None;
+    }
+    Some((plan, needy - removed))
+}
+
+fn without_threshold(made: &Made, _: u32, _: &mut Random) -> Change {
+    without(made, THRESHOLD, |code| code == SESSION || code == INTENT)
+}
+
+fn without_authorizer(made: &Made, _: u32, _: &mut Random) -> Change {
+    without(made, AUTHORIZER, |code| code == SESSION)
+}
+
+fn without_round(made: &Made, _: u32, _: &mut Random) -> Change {
+    without(made, ROUND, |code| code == SESSION)
+}
+
+fn early_intent(made: &Made, _: u32, random: &mut Random) -> Change {
+    let end = first_of(made, THRESHOLD).unwrap_or(items(made).len());
+    let at = random.between(1, end);
+    let parent = Link::Item(latest_config(made, at));
+    insert(made, at, new_item(made, INTENT, at, parent, Vec::new(), administrator(made)))
+}
+
+/// The voter has a new session just before the item.
+fn overwritten(made: &Made, code: u32, random: &mut Random) -> Change {
+    let at = pick(made, code, random)?;
+    let old = session_of(made, at);
+    let mut content = items(made)[old].content.clone();
+    if random.chance(70) {
+        content[2..18].copy_from_slice(&random.words(16));
+    }
+    let mut session = new_item(made, SESSION, at, Link::Item(latest_config(made, at)), content, authorizer(made, at)?);
+    session.time = items(made)[at].time;
+    let mut plan = made.plan.clone();
+    plan.insert(at, session);
+    Some((plan, at + 1))
+}
+
+// ---- 12: second ----
+
+fn second_genesis(made: &Made, _: u32, random: &mut Random) -> Change {
+    let at = config_position(made, 1, random)?;
+    let mut content = items(made)[0].content.clone();
+    if random.chance(50) {
+        content = random.words(17);
+    }
+    insert(made, at, new_item(made, GENESIS, at, Link::Zeros, content, administrator(made)))
+}
+
+fn second_threshold(made: &Made, _: u32, random: &mut Random) -> Change {
+    let first = first_of(made, THRESHOLD)?;
+    let at = config_position(made, first + 1, random)?;
+    let mut content = items(made)[first].content.clone();
+    if random.chance(50) {
+        content[0] = 99; // 12 comes before 13
+    }
+    insert(made, at, new_item(made, THRESHOLD, at, Link::Item(latest_config(made, at)), content, administrator(made)))
+}
+
+/// A position after `from` where a voting item of this session may stand.
+fn voting_position(made: &Made, from: usize, session: usize, random: &mut Random) -> usize {
+    for _ in 0..4 {
+        let end = first_of(made, INTENT).unwrap_or(items(made).len());
+        let at = random.between(from + 1, end.max(from + 1));
+        let now = last_main(made, at).map_or(0, |i| items(made)[i].time);
+        if is_live(made, session, at) && !open(made, at, now).is_empty() {
+            return at;
+        }
+    }
+    from + 1
+}
+
+/// Another item of the type under the same parent.
+fn second_under(made: &Made, code: u32, random: &mut Random) -> Change {
+    let first = pick(made, code, random)?;
+    let mut spec = items(made)[first].clone();
+    let at = if is_voting(code) {
+        voting_position(made, first, session_of(made, first), random)
+    } else {
+        random.between(first + 1, items(made).len())
+    };
+    if spec.kind == MAIN {
+        spec.time = items(made)[last_main(made, at)?].time;
+    } else if random.chance(50) {
+        spec.time = spec.time.saturating_add(1);
+    }
+    // Of a copy only the first differs; bad bits would be 13, which comes later.
+    if random.chance(50) && !spec.content.is_empty() && code != VERIFIER {
+        let word = random.below(spec.content.len());
+        spec.content[word] ^= 1 + random.word() / 2;
+    }
+    insert(made, at, spec)
+}
+
+fn second_decision(made: &Made, first: u32, second: u32, random: &mut Random) -> Change {
+    let decided = pick(made, first, random)?;
+    let at = voting_position(made, decided, session_of(made, decided), random);
+    let mut spec = items(made)[decided].clone();
+    spec.code = second;
+    spec.time = items(made)[last_main(made, at)?].time;
+    insert(made, at, spec)
+}
+
+fn cast_after_cast(made: &Made, _: u32, random: &mut Random) -> Change {
+    second_decision(made, CAST, CAST, random)
+}
+fn spoil_after_cast(made: &Made, _: u32, random: &mut Random) -> Change {
+    second_decision(made, CAST, SPOIL, random)
+}
+fn cast_after_spoil(made: &Made, _: u32, random: &mut Random) -> Change {
+    second_decision(made, SPOIL, CAST, random)
+}
+fn spoil_after_spoil(made: &Made, _: u32, random: &mut Random) -> Change {
+    second_decision(made, SPOIL, SPOIL, random)
+}
+
+// ---- 13: bad content ----
+
+fn contest_number(made: &Made, _: u32, random: &mut Random) -> Change {
+    change_content(made, CONTEST, random, |c, r| c[0] = *r.pick(&[32, 33, 63, 64, 1 << 31, u32::MAX]))
+}
+
+fn threshold_is(made: &Made, random: &mut Random, m: u32, t: u32) -> Change {
+    change_content(made, THRESHOLD, random, |c, _| (c[0], c[1]) = (m, t))
+}
+fn threshold_t_zero(made: &Made, _: u32, random: &mut Random) -> Change {
+    let m = random.between(1, 32) as u32;
+    threshold_is(made, random, m, 0)
+}
+fn threshold_t_over_m(made: &Made, _: u32, random: &mut Random) -> Change {
+    let m = random.between(1, 31) as u32;
+    let t = *random.pick(&[m + 1, 32, 33, u32::MAX]);
+    threshold_is(made, random, m, t.max(m + 1))
+}
+fn threshold_m_33(made: &Made, _: u32, random: &mut Random) -> Change {
+    let t = random.between(1, 33) as u32;
+    threshold_is(made, random, 33, t)
+}
+fn threshold_m_zero(made: &Made, _: u32, random: &mut Random) -> Change {
+    threshold_is(made, random, 0, 0)
+}
+fn threshold_m_huge(made: &Made, _: u32, random: &mut Random) -> Change {
+    let m = *random.pick(&[64, 1 << 31, u32::MAX]);
+    threshold_is(made, random, m, 2)
+}
+
+fn authorizer_mode(made: &Made, _: u32, random: &mut Random) -> Change {
+    change_content(made, AUTHORIZER, random, |c, r| c[0] = *r.pick(&[0, 3, 1 << 31 | 1, u32::MAX]))
+}
+
+fn round_number(made: &Made, _: u32, random: &mut Random) -> Change {
+    change_content(made, ROUND, random, |c, r| c[0] = *r.pick(&[16, 17, 31, 32, u32::MAX]))
+}
+fn round_empty(made: &Made, _: u32, random: &mut Random) -> Change {
+    change_content(made, ROUND, random, |c, _| c[1] = 0)
+}
+/// A contest that is not defined yet, alone or beside the others.
+fn undefined_contest(made: &Made, code: u32, random: &mut Random, word: usize) -> Change {
+    let at = pick(made, code, random)?;
+    let defined = contests(made, at);
+    if defined == u32::MAX {
+        return None;
+    }
+    let other = random.bit(!defined);
+    let alone = random.chance(30);
+    change_item(made, at, |s| s.content[word] = if alone { other } else { s.content[word] | other })
+}
+fn round_undefined(made: &Made, _: u32, random: &mut Random) -> Change {
+    undefined_contest(made, ROUND, random, 1)
+}
+fn round_start_is_end(made: &Made, _: u32, random: &mut Random) -> Change {
+    change_content(made, ROUND, random, |c, _| (c[4], c[5]) = (c[2], c[3]))
+}
+fn round_start_after_end(made: &Made, _: u32, random: &mut Random) -> Change {
+    change_content(made, ROUND, random, |c, _| (c[2], c[3], c[4], c[5]) = (c[4], c[5], c[2], c[3]))
+}
+/// The start's low word is less, its high word more.
+fn round_start_after_end_high(made: &Made, _: u32, random: &mut Random) -> Change {
+    change_content(made, ROUND, random, |c, _| c[2..6].copy_from_slice(&[8, 0, 7, 9]))
+}
+
+fn session_weight(made: &Made, _: u32, random: &mut Random) -> Change {
+    change_content(made, SESSION, random, |c, _| c[1] = 0)
+}
+fn session_empty(made: &Made, _: u32, random: &mut Random) -> Change {
+    change_content(made, SESSION, random, |c, _| c[18] = 0)
+}
+fn session_undefined(made: &Made, _: u32, random: &mut Random) -> Change {
+    undefined_contest(made, SESSION, random, 18)
+}
+
+fn commitment_bits(made: &Made, code: u32, random: &mut Random) -> Change {
+    change_content(made, code, random, |c, r| c[8] |= *r.pick(&[1, 1 << 23, 1 << 12, 0x00ff_ffff]))
+}
+
+fn cryptogram_bits(made: &Made, _: u32, random: &mut Random) -> Change {
+    change_content(made, BALLOT, random, |c, r| {
+        let k = (c.len() - 1) / CRYPTOGRAM;
+        let some = 1 + r.below(k);
+        let which = *r.pick(&[1, k, some]);
+        c[which * CRYPTOGRAM] |= *r.pick(&[1, 1 << 15, 1 << 8]);
+    })
+}
+/// A cryptogram too many for the set.
+fn ballot_too_long(made: &Made, _: u32, random: &mut Random) -> Change {
+    let at = pick_where(made, random, |_, s| s.code == BALLOT && s.content.len() < 1 + CRYPTOGRAM * 32)?;
+    change_item(made, at, |s| s.content.extend([0; CRYPTOGRAM]))
+}
+fn ballot_too_short(made: &Made, _: u32, random: &mut Random) -> Change {
+    let at = pick_where(made, random, |_, s| s.code == BALLOT && s.content.len() > 1 + CRYPTOGRAM)?;
+    change_item(made, at, |s| s.content.truncate(s.content.len() - CRYPTOGRAM))
+}
+fn ballot_empty(made: &Made, _: u32, random: &mut Random) -> Change {
+    change_content(made, BALLOT, random, |c, _| c[0] = 0)
+}
+/// A contest is swapped for another, so that the count still fits.
+fn ballot_swap(made: &Made, random: &mut Random, into: impl Fn(usize) -> u32) -> Change {
+    let at = pick_where(made, random, |i, s| s.code == BALLOT && into(i) & !s.content[0] != 0)?;
+    let set = items(made)[at].content[0];
+    let (gone, come) = (random.bit(set), random.bit(into(at) & !set));
+    change_item(made, at, |s| s.content[0] = set & !gone | come)
+}
+fn ballot_not_in_session(made: &Made, _: u32, random: &mut Random) -> Change {
+    ballot_swap(made, random, |i| {
+        let enabled = open(made, i, items(made)[i].time).iter().fold(0, |set, r| set | r.1);
+        enabled & !items(made)[session_of(made, i)].content[18]
+    })
+}
+fn ballot_not_enabled(made: &Made, _: u32, random: &mut Random) -> Change {
+    ballot_swap(made, random, |i| {
+        let enabled = open(made, i, items(made)[i].time).iter().fold(0, |set, r| set | r.1);
+        items(made)[session_of(made, i)].content[18] & !enabled
+    })
+}
+fn ballot_undefined(made: &Made, _: u32, random: &mut Random) -> Change {
+    ballot_swap(made, random, |i| !contests(made, i))
+}
+/// The rounds that enabled a contest are replaced by such without it.
+fn ballot_only_replaced(made: &Made, _: u32, random: &mut Random) -> Change {
+    let at = pick(made, BALLOT, random)?;
+    let ballot = items(made)[at].content[0];
+    let gone = random.bit(ballot);
+    let rest = contests(made, at) & !gone;
+    if rest == 0 {
+        return None;
+    }
+    let mut plan = made.plan.clone();
+    let mut inserted = 0;
+    for (number, set, start, end) in open(made, at, items(made)[at].time) {
+        let kept = if set & !gone != 0 { set & !gone } else { random.subset(rest) };
+        let mut round = new_round(made, at, number, kept, start, end);
+        if inserted > 0 {
+            round.parent = Link::Item(at + inserted - 1);
+        }
+        plan.insert(at + inserted, round);
+        inserted += 1;
+    }
+    Some((plan, at + inserted))
+}
+
+/// A fingerprint of other ballots than the counted ones. `order` gives their positions.
+fn fingerprint_of(made: &Made, random: &mut Random, order: impl Fn(&Made, usize) -> Vec<usize>) -> Change {
+    let at = pick(made, EXTRACTION, random)?;
+    let mut message = Vec::new();
+    for ballot in order(made, at) {
+        message.extend_from_slice(&items(made)[ballot].content);
+    }
+    let wrong = sha256(&message).to_vec();
+    if wrong == items(made)[at].content {
+        return None;
+    }
+    change_item(made, at, |s| s.content = wrong)
+}
+
+fn positions(made: &Made, before: usize, code: u32) -> Vec<usize> {
+    (0..before).filter(|&i| items(made)[i].code == code).collect()
+}
+fn voter_of(made: &Made, position: usize) -> u32 {
+    items(made)[session_of(made, position)].content[0]
+}
+fn parent_position(made: &Made, position: usize) -> usize {
+    made.expected.rows[position][0] as usize - 1
+}
+/// Of each voter the last of some positions, in order.
+fn last_of_voters(made: &Made, from: Vec<usize>) -> Vec<usize> {
+    let mut kept: Vec<usize> = Vec::new();
+    for i in from {
+        kept.retain(|&k| voter_of(made, k) != voter_of(made, i));
+        kept.push(i);
+    }
+    kept
+}
+fn counted(made: &Made, before: usize) -> Vec<usize> {
+    last_of_voters(made, positions(made, before, CAST)).iter().map(|&i| parent_position(made, i)).collect()
+}
+
+fn fingerprint_flipped(made: &Made, _: u32, random: &mut Random) -> Change {
+    change_content(made, EXTRACTION, random, |c, r| c[r.below(8)] ^= 1 << r.below(32))
+}
+fn fingerprint_none(made: &Made, _: u32, random: &mut Random) -> Change {
+    fingerprint_of(made, random, |_, _| Vec::new())
+}
+fn fingerprint_all_casts(made: &Made, _: u32, random: &mut Random) -> Change {
+    fingerprint_of(made, random, |m, at| positions(m, at, CAST).iter().map(|&i| parent_position(m, i)).collect())
+}
+fn fingerprint_all_ballots(made: &Made, _: u32, random: &mut Random) -> Change {
+    fingerprint_of(made, random, |m, at| positions(m, at, BALLOT))
+}
+fn fingerprint_last_ballots(made: &Made, _: u32, random: &mut Random) -> Change {
+    fingerprint_of(made, random, |m, at| last_of_voters(m, positions(m, at, BALLOT)))
+}
+fn fingerprint_reversed(made: &Made, _: u32, random: &mut Random) -> Change {
+    fingerprint_of(made, random, |m, at| counted(m, at).into_iter().rev().collect())
+}
+/// The counted ballots in the order of each voter's first cast.
+fn fingerprint_first_order(made: &Made, _: u32, random: &mut Random) -> Change {
+    fingerprint_of(made, random, |m, at| {
+        let mut voters: Vec<u32> = Vec::new();
+        for i in positions(m, at, CAST) {
+            if !voters.contains(&voter_of(m, i)) {
+                voters.push(voter_of(m, i));
+            }
+        }
+        let mut ballots = counted(m, at);
+        ballots.sort_by_key(|&b| voters.iter().position(|&v| v == voter_of(m, b)));
+        ballots
+    })
+}
+/// The counted ballots in the order of the ballots, not of the casts.
+fn fingerprint_ballot_order(made: &Made, _: u32, random: &mut Random) -> Change {
+    fingerprint_of(made, random, |m, at| {
+        let mut ballots = counted(m, at);
+        ballots.sort();
+        ballots
+    })
+}
+fn fingerprint_live_only(made: &Made, _: u32, random: &mut Random) -> Change {
+    fingerprint_of(made, random, |m, at| {
+        counted(m, at).into_iter().filter(|&b| is_live(m, session_of(m, b), at)).collect()
+    })
+}
+/// The contents without the contest sets.
+fn fingerprint_cryptograms(made: &Made, _: u32, random: &mut Random) -> Change {
+    let at = pick(made, EXTRACTION, random)?;
+    let ballots = counted(made, at);
+    if ballots.is_empty() {
+        return None;
+    }
+    let message: Vec<u32> = ballots.iter().flat_map(|&b| items(made)[b].content[1..].to_vec()).collect();
+    change_item(made, at, |s| s.content = sha256(&message).to_vec())
+}
+
+fn confirmation_too_long(made: &Made, _: u32, random: &mut Random) -> Change {
+    let at = pick_where(made, random, |_, s| s.code == CONFIRMATION && s.content.len() < 1 + TRUSTEE * 32)?;
+    change_item(made, at, |s| s.content.extend([0; TRUSTEE]))
+}
+fn confirmation_too_short(made: &Made, _: u32, random: &mut Random) -> Change {
+    let at = pick_where(made, random, |_, s| s.code == CONFIRMATION && s.content.len() > 1 + TRUSTEE)?;
+    change_item(made, at, |s| s.content.truncate(s.content.len() - TRUSTEE))
+}
+fn confirmation_empty(made: &Made, _: u32, random: &mut Random) -> Change {
+    change_content(made, CONFIRMATION, random, |c, _| c[0] = 0)
+}
+/// A trustee number of m or more: m itself, or any.
+fn confirmation_number(made: &Made, random: &mut Random, just_m: bool) -> Change {
+    let m = items(made)[first_of(made, THRESHOLD)?].content[0];
+    if m == 32 {
+        return None;
+    }
+    let add = if just_m { 1 << m } else { random.bit(u32::MAX << m) };
+    let replace = random.chance(50);
+    change_content(made, CONFIRMATION, random, |c, r| {
+        if replace || c.len() == 1 + TRUSTEE * 32 {
+            let gone = r.bit(c[0]);
+            c[0] = c[0] & !gone | add;
+        } else {
+            c[0] |= add;
+            c.extend([7; TRUSTEE]);
+        }
+    })
+}
+fn confirmation_number_m(made: &Made, _: u32, random: &mut Random) -> Change {
+    confirmation_number(made, random, true)
+}
+fn confirmation_number_over(made: &Made, _: u32, random: &mut Random) -> Change {
+    confirmation_number(made, random, false)
+}
+fn confirmation_too_few(made: &Made, _: u32, random: &mut Random) -> Change {
+    let t = items(made)[first_of(made, THRESHOLD)?].content[1];
+    if t < 2 {
+        return None;
+    }
+    let fewer = *random.pick(&[1, t - 1]);
+    change_content(made, CONFIRMATION, random, |c, r| {
+        while c[0].count_ones() > fewer {
+            c[0] &= !r.bit(c[0]);
+        }
+        c.truncate(1 + TRUSTEE * fewer as usize);
+    })
+}
+
+// ---- 14: no verdict ----
+
+fn verdict_kind(made: &Made, _: u32, random: &mut Random) -> Change {
+    let at = any(made, random);
+    let kind = *random.pick(&[0, 1, 2, 4, 7, 11, 15]);
+    change_item(made, at, |s| s.verdict = kind << 28 | s.verdict & 1)
+}
+fn verdict_bits(made: &Made, _: u32, random: &mut Random) -> Change {
+    let at = any(made, random);
+    let bit = random.between(1, 27);
+    let good = random.chance(50);
+    change_item(made, at, |s| s.verdict = VERDICT << 28 | 1 << bit | u32::from(good))
+}
+fn verdict_missing(made: &Made, _: u32, random: &mut Random) -> Change {
+    let at = any(made, random);
+    let mut plan = made.plan.clone();
+    plan.verdicts_cut = Some(at * VERDICT_WORDS + random.below(VERDICT_WORDS));
+    // What is left of the nine may be wrong as well.
+    match random.below(4) {
+        0 => plan.items[at].verdict = VERDICT << 28,
+        1 => plan.items[at].key = random.eight(),
+        _ => {}
+    }
+    Some((plan, at))
+}
+fn verdict_none(made: &Made, _: u32, _: &mut Random) -> Change {
+    let mut plan = made.plan.clone();
+    plan.verdicts_cut = Some(0);
+    Some((plan, 0))
+}
+
+// ---- 15: wrong key ----
+
+/// Another key than the writer's; the verdict may be bad as well.
+fn key_is(made: &Made, at: usize, key: [u32; 8], random: &mut Random) -> Change {
+    if key == items(made)[at].key {
+        return None;
+    }
+    let verdict = VERDICT << 28 | u32::from(random.chance(70));
+    change_item(made, at, |s| (s.key, s.verdict) = (key, verdict))
+}
+fn key_random(made: &Made, code: u32, random: &mut Random) -> Change {
+    let at = pick(made, code, random)?;
+    let key = random.eight();
+    key_is(made, at, key, random)
+}
+fn key_zeros(made: &Made, code: u32, random: &mut Random) -> Change {
+    let at = pick(made, code, random)?;
+    key_is(made, at, ZEROS, random)
+}
+fn key_flipped(made: &Made, code: u32, random: &mut Random) -> Change {
+    let at = pick(made, code, random)?;
+    let mut key = items(made)[at].key;
+    key[random.below(8)] ^= 1 << random.below(32);
+    key_is(made, at, key, random)
+}
+fn key_administrator(made: &Made, code: u32, random: &mut Random) -> Change {
+    let at = pick(made, code, random)?;
+    key_is(made, at, administrator(made), random)
+}
+fn key_ballot_box(made: &Made, code: u32, random: &mut Random) -> Change {
+    let at = pick(made, code, random)?;
+    key_is(made, at, ballot_box(made), random)
+}
+fn key_authorizer(made: &Made, code: u32, random: &mut Random) -> Change {
+    let at = pick(made, code, random)?;
+    key_is(made, at, authorizer(made, items(made).len())?, random)
+}
+/// The key of some session: another voter's, or the same voter's other one.
+fn key_voter(made: &Made, code: u32, random: &mut Random) -> Change {
+    let at = pick(made, code, random)?;
+    let session = pick(made, SESSION, random)?;
+    key_is(made, at, eight(&items(made)[session].content, 2), random)
+}
+/// An authorizer's key that a later one has replaced.
+fn key_replaced(made: &Made, _: u32, random: &mut Random) -> Change {
+    let at = pick(made, SESSION, random)?;
+    let old = positions(made, at, AUTHORIZER);
+    let replaced = *random.pick(&old);
+    key_is(made, at, eight(&items(made)[replaced].content, 1), random)
+}
+/// An opening under the key of the voter's latest session, which is not its own.
+fn key_latest_session(made: &Made, _: u32, random: &mut Random) -> Change {
+    let at = pick_where(made, random, |i, s| s.code == VOTER_OPENING && !is_live(made, session_of(made, i), i))?;
+    let voter = voter_of(made, at);
+    let latest = positions(made, at, SESSION).into_iter().rev().find(|&s| items(made)[s].content[0] == voter)?;
+    key_is(made, at, eight(&items(made)[latest].content, 2), random)
+}
+
+// ---- 16: bad signature ----
+
+fn bad_signature(made: &Made, code: u32, random: &mut Random) -> Change {
+    let at = pick(made, code, random)?;
+    change_item(made, at, |s| s.verdict = VERDICT << 28)
+}
+
+// ---- 18: bad close ----
+
+fn close_with(made: &Made, word: u32) -> Change {
+    let mut plan = made.plan.clone();
+    plan.closing = Some(Some(word));
+    Some((plan, items(made).len()))
+}
+fn close_number(made: &Made, _: u32, random: &mut Random) -> Change {
+    let items = items(made).len() as u32;
+    let wrong = *random.pick(&[items - 1, items + 1, 0, items | 1 << 27, 0x0fff_ffff]);
+    close_with(made, CLOSING << 28 | wrong)
+}
+fn close_number_of_mains(made: &Made, _: u32, _: &mut Random) -> Change {
+    if made.expected.mains == items(made).len() {
+        return None;
+    }
+    close_with(made, CLOSING << 28 | made.expected.mains as u32)
+}
+fn close_words_after(made: &Made, _: u32, random: &mut Random) -> Change {
+    let mut plan = made.plan.clone();
+    let count = random.between(1, 60);
+    plan.after = random.words(count);
+    if random.chance(30) {
+        plan.after = vec![CLOSING << 28 | items(made).len() as u32];
+    }
+    Some((plan, items(made).len()))
+}
+fn close_verdicts_left(made: &Made, _: u32, random: &mut Random) -> Change {
+    let mut plan = made.plan.clone();
+    let count = *random.pick(&[1, 8, 9, 10, 90]);
+    plan.verdicts_after = random.words(count);
+    Some((plan, items(made).len()))
+}
+/// A closing word in an item's place, its number right.
+fn close_inside(made: &Made, _: u32, random: &mut Random) -> Change {
+    if items(made).len() < 2 {
+        return None;
+    }
+    let at = random.between(1, items(made).len() - 1);
+    let mut plan = made.plan.clone();
+    plan.head = Some((at, CLOSING << 28 | at as u32));
+    Some((plan, at))
+}
+/// A shorter board with all verdicts.
+fn close_early(made: &Made, _: u32, random: &mut Random) -> Change {
+    if items(made).len() < 2 {
+        return None;
+    }
+    let passed = random.between(1, items(made).len() - 1);
+    let mut plan = made.plan.clone();
+    for spec in plan.items.drain(passed..) {
+        plan.verdicts_after.push(spec.verdict);
+        plan.verdicts_after.extend(spec.key);
+    }
+    Some((plan, passed))
+}
+
+// ---- the list ----
+
+/// Every fault but those of the word and item limits, which take long boards.
+pub fn faults() -> Vec<Fault> {
+    let mut list = Vec::new();
+    let mut one = |number: u32, reason: &str, change: fn(&Made, u32, &mut Random) -> Change| {
+        list.push(Fault { number, reason: format!("{number}/{reason}"), code: 0, change });
+    };
+    one(3, "no words", no_words);
+    one(3, "closing word first", closing_first);
+    one(4, "cut in an item", cut);
+    one(4, "cut after a head", cut_after_head);
+    one(4, "one word short", one_short);
+    one(4, "no closing word", no_closing_word);
+    one(5, "kind", strange_kind);
+    one(5, "unlisted main type", strange_main);
+    one(5, "unlisted hidden type", strange_hidden);
+    one(5, "hidden type as main", hidden_as_main);
+    one(5, "main type as hidden", main_as_hidden);
+    one(5, "unlisted head as last word", strange_head_last);
+    one(7, "with signature", address_with_signature);
+    one(7, "without head", address_without_head);
+    one(7, "without count", address_without_count);
+    one(7, "without time", address_without_time);
+    one(7, "zeros", address_zeros);
+    one(7, "content changed", content_changed);
+    one(7, "parent changed", parent_changed);
+    one(7, "previous changed", previous_changed);
+    one(7, "time changed", time_changed);
+    one(7, "cast and spoil changed", decision_changed);
+    one(8, "one bit", previous_flipped);
+    one(8, "zeros", previous_zeros);
+    one(8, "main names hidden", previous_hidden);
+    one(8, "two back", previous_two_back);
+    one(8, "main names parent", previous_parent);
+    one(8, "hidden names last main", hidden_previous_last_main);
+    one(8, "hidden names item before", hidden_previous_item_before);
+    one(8, "hidden, parent unknown too", hidden_unknown_parent_and_previous);
+    one(8, "hidden first", hidden_first_previous);
+    one(9, "genesis with a parent", genesis_parent);
+    one(9, "hidden before its parent", before_its_parent);
+    one(11, "no threshold", without_threshold);
+    one(11, "no authorizer", without_authorizer);
+    one(11, "no round", without_round);
+    one(11, "intent without threshold", early_intent);
+    one(12, "genesis", second_genesis);
+    one(12, "threshold", second_threshold);
+    one(12, "cast after cast", cast_after_cast);
+    one(12, "spoil after cast", spoil_after_cast);
+    one(12, "cast after spoil", cast_after_spoil);
+    one(12, "spoil after spoil", spoil_after_spoil);
+    one(13, "contest number", contest_number);
+    one(13, "threshold, t zero", threshold_t_zero);
+    one(13, "threshold, t over m", threshold_t_over_m);
+    one(13, "threshold, m 33", threshold_m_33);
+    one(13, "threshold, m zero", threshold_m_zero);
+    one(13, "threshold, m huge", threshold_m_huge);
+    one(13, "authorizer mode", authorizer_mode);
+    one(13, "round number", round_number);
+    one(13, "round without contests", round_empty);
+    one(13, "round, contest undefined", round_undefined);
+    one(13, "round, start is end", round_start_is_end);
+    one(13, "round, start after end", round_start_after_end);
+    one(13, "round, start after end in the high word", round_start_after_end_high);
+    one(13, "session weight 0", session_weight);
+    one(13, "session without contests", session_empty);
+    one(13, "session, contest undefined", session_undefined);
+    one(13, "cryptogram bits", cryptogram_bits);
+    one(13, "ballot, cryptogram too many", ballot_too_long);
+    one(13, "ballot, cryptogram too few", ballot_too_short);
+    one(13, "ballot without contests", ballot_empty);
+    one(13, "ballot, contest not in session", ballot_not_in_session);
+    one(13, "ballot, contest not enabled", ballot_not_enabled);
+    one(13, "ballot, contest undefined", ballot_undefined);
+    one(13, "ballot, only a replaced round", ballot_only_replaced);
+    one(13, "fingerprint, one bit", fingerprint_flipped);
+    one(13, "fingerprint of none", fingerprint_none);
+    one(13, "fingerprint of all casts", fingerprint_all_casts);
+    one(13, "fingerprint of all ballots", fingerprint_all_ballots);
+    one(13, "fingerprint of last ballots", fingerprint_last_ballots);
+    one(13, "fingerprint, reversed", fingerprint_reversed);
+    one(13, "fingerprint, order of first casts", fingerprint_first_order);
+    one(13, "fingerprint, order of ballots", fingerprint_ballot_order);
+    one(13, "fingerprint of live sessions", fingerprint_live_only);
+    one(13, "fingerprint of cryptograms", fingerprint_cryptograms);
+    one(13, "confirmation, trustee too many", confirmation_too_long);
+    one(13, "confirmation, trustee too few", confirmation_too_short);
+    one(13, "confirmation without trustees", confirmation_empty);
+    one(13, "confirmation, number m", confirmation_number_m);
+    one(13, "confirmation, number over m", confirmation_number_over);
+    one(13, "confirmation below threshold", confirmation_too_few);
+    one(14, "kind", verdict_kind);
+    one(14, "bits", verdict_bits);
+    one(14, "missing", verdict_missing);
+    one(14, "none at all", verdict_none);
+    one(15, "replaced authorizer", key_replaced);
+    one(15, "voter's latest session", key_latest_session);
+    one(18, "number", close_number);
+    one(18, "number of mains", close_number_of_mains);
+    one(18, "words after", close_words_after);
+    one(18, "verdicts left", close_verdicts_left);
+    one(18, "closing word inside", close_inside);
+    one(18, "cut, verdicts left", close_early);
+
+    let mut each = |number: u32, reason: &str, codes: &[u32], change: fn(&Made, u32, &mut Random) -> Change| {
+        for &code in codes {
+            list.push(Fault { number, reason: format!("{number}/{reason}/type {code}"), code, change });
+        }
+    };
+    let linked = &CODES[1..];
+    let configured = [TEXT, CONTEST, THRESHOLD, AUTHORIZER, ROUND, SESSION, INTENT];
+    let typed = [17, 18, 19, 20, 21, 33, 34, 48, 49, 50, 51];
+    let voting = [16, 17, 18, 19, 20, 21];
+    let tracks = [VERIFIER, VOTER_OPENING, SERVER_OPENING];
+    each(6, "head", &CODES, misfit_head);
+    each(6, "content", &CODES, misfit_content);
+    each(6, "head as last word", &CODES, misfit_head_last);
+    each(7, "one bit", &CODES, address_flipped);
+    each(8, "random", &CODES, previous_random);
+    each(9, "not found", &CODES, parent_unknown);
+    each(9, "one bit", linked, parent_flipped);
+    each(9, "zeros", linked, parent_zeros);
+    each(9, "older config", &configured, parent_older_config);
+    each(9, "no config", &[TEXT, CONTEST, AUTHORIZER, ROUND, SESSION, INTENT], parent_no_config);
+    each(9, "hidden parent", &[2, 3, 5, 6, 16, 17, 18, 19, 20, 21, 32, 33, 34, 48], parent_hidden);
+    each(9, "main parent", &tracks, parent_main);
+    each(9, "other type", &typed, parent_other_type);
+    each(9, "first", linked, first_is);
+    each(10, "earlier", linked, backward);
+    each(11, "after intent", &CODES[..12], after_intent);
+    each(11, "late", &voting, late);
+    each(11, "replaced", &voting, replaced);
+    each(11, "overwritten", &voting[1..], overwritten);
+    each(12, "under a parent", &[18, 19, 33, 34, 48, 49, 50, 51], second_under);
+    each(13, "low bits", &[VOTER_COMMITMENT, SERVER_COMMITMENT], commitment_bits);
+    each(15, "random", &CODES, key_random);
+    each(15, "zeros", &CODES, key_zeros);
+    each(15, "one bit", &CODES, key_flipped);
+    each(15, "administrator", &[16, 17, 18, 19, 20, 21, 33, 48, 49, 50, 51], key_administrator);
+    each(15, "ballot box", &[1, 2, 3, 4, 5, 6, 16, 17, 19, 20, 21, 32, 34, 49, 50], key_ballot_box);
+    each(15, "authorizer", &[1, 2, 3, 4, 5, 6, 17, 18, 19, 20, 21, 32, 33, 34, 48, 49, 50, 51], key_authorizer);
+    each(15, "a voter", &CODES, key_voter);
+    each(16, "verdict", &CODES, bad_signature);
+    list
+}
+
+/// The place of a refusal in the order of an item's checks.
+pub fn rank(number: u32) -> u32 {
+    match number {
+        5 => 1,
+        6 => 2,
+        4 => 3,
+        _ => number,
+    }
+}
+
+/// A second fault in the item that has one: gives its number, if it could be done.
+pub fn spoil_more(faulty: &mut Faulty, random: &mut Random) -> Option<u32> {
+    let at = faulty.items;
+    if faulty.plan.cut.is_some() || faulty.plan.head.is_some() || at >= faulty.plan.items.len() {
+        return None;
+    }
+    let plan = &mut faulty.plan;
+    let before = plan.items[..at].iter().rev().find(|s| s.kind == MAIN).map_or(0, |s| s.time);
+    let item = &mut plan.items[at];
+    let number = *random.pick(&[4, 5, 6, 7, 8, 9, 10, 14, 15, 16]);
+    match number {
+        4 => {
+            let length = item.count.unwrap_or(item.content.len()).min(item.content.len()) + FRAME;
+            plan.cut = Some((at, random.between(1, length - 1)));
+        }
+        5 => item.code = unlisted(random),
+        6 => item.count = Some(misfit_count(item.code, random)),
+        7 if item.address == Address::Right => item.address = Address::Flipped(random.below(256)),
+        8 => item.previous = Previous::Words(random.eight()),
+        9 if item.kind == MAIN || item.previous == Previous::Right => item.parent = Link::Words(random.eight()),
+        10 if item.kind == MAIN && before > 0 => item.time = before - 1,
+        14 => item.verdict = 0x4000_0001,
+        15 => item.key = random.eight(),
+        16 => item.verdict &= !1,
+        _ => return None,
+    }
+    Some(number)
+}

@@ -1,0 +1,158 @@
+//! The words of a board: heads, the layout of an item, the table of types, the limits.
+
+pub const MAX_WORDS: usize = 262_144;
+pub const MAX_ITEMS: usize = 2_048;
+/// The words that the index table, the ballot table and the list of an ancestry need.
+pub const INDEX_NEED: usize = 8_192;
+pub const BALLOTS_NEED: usize = 6_144;
+pub const LIST_NEED: usize = 2_048;
+pub const INDEX_ROW: usize = 4;
+pub const BALLOT_ROW: usize = 3;
+/// The session column of an item that has none.
+pub const NO_SESSION: u32 = u32::MAX;
+
+pub const MAIN: u32 = 1;
+pub const HIDDEN: u32 = 2;
+pub const VERDICT: u32 = 3;
+pub const CLOSING: u32 = 15;
+
+/// The words of an item beside its content, and the hashed ones among them.
+pub const FRAME: usize = 43;
+pub const HASHED_FRAME: usize = 19;
+pub const VERDICT_WORDS: usize = 9;
+pub const ZEROS: [u32; 8] = [0; 8];
+
+pub const GENESIS: u32 = 1;
+pub const TEXT: u32 = 2;
+pub const CONTEST: u32 = 3;
+pub const THRESHOLD: u32 = 4;
+pub const AUTHORIZER: u32 = 5;
+pub const ROUND: u32 = 6;
+pub const SESSION: u32 = 16;
+pub const VOTER_COMMITMENT: u32 = 17;
+pub const SERVER_COMMITMENT: u32 = 18;
+pub const BALLOT: u32 = 19;
+pub const CAST: u32 = 20;
+pub const SPOIL: u32 = 21;
+pub const INTENT: u32 = 32;
+pub const EXTRACTION: u32 = 33;
+pub const CONFIRMATION: u32 = 34;
+pub const TRACK: u32 = 48;
+pub const VERIFIER: u32 = 49;
+pub const VOTER_OPENING: u32 = 50;
+pub const SERVER_OPENING: u32 = 51;
+
+/// Every type code, in the table's order.
+pub const CODES: [u32; 19] = [1, 2, 3, 4, 5, 6, 16, 17, 18, 19, 20, 21, 32, 33, 34, 48, 49, 50, 51];
+
+/// The words of one cryptogram in a ballot, and of one trustee in a confirmation.
+pub const CRYPTOGRAM: usize = 17;
+pub const TRUSTEE: usize = 16;
+
+pub fn kind(head: u32) -> u32 {
+    head >> 28
+}
+pub fn code(head: u32) -> u32 {
+    (head >> 16) & 0xfff
+}
+pub fn count(head: u32) -> usize {
+    (head & 0xffff) as usize
+}
+pub fn head(kind: u32, code: u32, count: usize) -> u32 {
+    kind << 28 | code << 16 | count as u32
+}
+
+/// The kind under which a type is listed.
+pub fn kind_of(code: u32) -> Option<u32> {
+    match code {
+        1..=6 | 16..=21 | 32..=34 => Some(MAIN),
+        48..=51 => Some(HIDDEN),
+        _ => None,
+    }
+}
+
+/// Whether the table has this content count for the type.
+pub fn count_fits(code: u32, n: usize) -> bool {
+    match code {
+        GENESIS => n == 17,
+        TEXT => n <= 64,
+        CONTEST => (1..=65).contains(&n),
+        THRESHOLD => n == 10,
+        AUTHORIZER => n == 9,
+        ROUND => n == 6,
+        SESSION => n == 19,
+        VOTER_COMMITMENT | SERVER_COMMITMENT => n == 9,
+        BALLOT => (1..=32).any(|k| n == 1 + CRYPTOGRAM * k),
+        CAST | SPOIL | INTENT | TRACK => n == 0,
+        EXTRACTION | VERIFIER => n == 8,
+        CONFIRMATION => (1..=32).any(|k| n == 1 + TRUSTEE * k),
+        VOTER_OPENING | SERVER_OPENING => (1..=256).contains(&n),
+        _ => false,
+    }
+}
+
+/// What the table lists as a type's parent.
+#[derive(Clone, Copy, PartialEq, Eq, Debug)]
+pub enum Parent {
+    Zeros,
+    LatestConfig,
+    Type(u32),
+}
+
+pub fn parent_of(code: u32) -> Parent {
+    match code {
+        GENESIS => Parent::Zeros,
+        TEXT..=ROUND | SESSION | INTENT => Parent::LatestConfig,
+        VOTER_COMMITMENT => Parent::Type(SESSION),
+        SERVER_COMMITMENT => Parent::Type(VOTER_COMMITMENT),
+        BALLOT => Parent::Type(SERVER_COMMITMENT),
+        CAST | SPOIL | TRACK => Parent::Type(BALLOT),
+        EXTRACTION => Parent::Type(INTENT),
+        CONFIRMATION => Parent::Type(EXTRACTION),
+        VERIFIER => Parent::Type(TRACK),
+        VOTER_OPENING => Parent::Type(VERIFIER),
+        SERVER_OPENING => Parent::Type(VOTER_OPENING),
+        _ => panic!("type {code} is not in the table"),
+    }
+}
+
+/// Whose key an item is signed with.
+#[derive(Clone, Copy, PartialEq, Eq, Debug)]
+pub enum Writer {
+    Administrator,
+    BallotBox,
+    Authorizer,
+    Voter,
+    Verifier,
+}
+
+pub fn writer_of(code: u32) -> Writer {
+    match code {
+        GENESIS..=ROUND | INTENT | CONFIRMATION => Writer::Administrator,
+        SESSION => Writer::Authorizer,
+        VOTER_COMMITMENT | BALLOT | CAST | SPOIL | VOTER_OPENING => Writer::Voter,
+        SERVER_COMMITMENT | EXTRACTION | TRACK | SERVER_OPENING => Writer::BallotBox,
+        VERIFIER => Writer::Verifier,
+        _ => panic!("type {code} is not in the table"),
+    }
+}
+
+/// The config is types 1 to 6.
+pub fn is_config(code: u32) -> bool {
+    (GENESIS..=ROUND).contains(&code)
+}
+
+/// Types 16 to 21.
+pub fn is_voting(code: u32) -> bool {
+    (SESSION..=SPOIL).contains(&code)
+}
+
+/// Eight words of a slice: a hash or a key fingerprint.
+pub fn eight(words: &[u32], at: usize) -> [u32; 8] {
+    words[at..at + 8].try_into().expect("eight words")
+}
+
+/// A time of two words, high first.
+pub fn time(words: &[u32], at: usize) -> u64 {
+    u64::from(words[at]) << 32 | u64::from(words[at + 1])
+}

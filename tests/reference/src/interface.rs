@@ -1,0 +1,200 @@
+//! The auditor's C interface, and a stand-in for it made of the reference.
+//!
+//! A slice passes as a pointer and a length. An entry gives false and writes nothing at all
+//! where the answer's buffer is too short.
+
+use crate::ancestry::ancestry;
+use crate::audit::audit;
+use crate::compare::{compare, Board, Comparison, Side, Tables};
+use std::slice::{from_raw_parts, from_raw_parts_mut};
+use std::sync::atomic::{AtomicUsize, Ordering};
+
+pub const AUDIT_ANSWER: usize = 14;
+pub const COMPARE_ANSWER: usize = 6;
+pub const ANCESTRY_ANSWER: usize = 2;
+
+#[rustfmt::skip]
+pub type AuditEntry = unsafe extern "C" fn(
+    *const u32, usize, *const u32, usize, *mut u32, usize, *mut u32, usize, *mut u32, usize) -> bool;
+#[rustfmt::skip]
+pub type CompareEntry = unsafe extern "C" fn(
+    *const u32, usize, *const u32, usize, *const u32, usize, *const u32, usize, usize,
+    *mut u32, usize, *mut u32, usize, *mut u32, usize, *mut u32, usize, *mut u32, usize) -> bool;
+#[rustfmt::skip]
+pub type AncestryEntry = unsafe extern "C" fn(
+    *const u32, usize, *const u32, usize, usize,
+    *mut u32, usize, *mut u32, usize, *mut u32, usize, *mut u32, usize) -> bool;
+
+#[derive(Clone, Copy)]
+pub struct Interface {
+    pub audit: AuditEntry,
+    pub compare: CompareEntry,
+    pub ancestry: AncestryEntry,
+}
+
+/// Number, items, mains, ballots, weight (high first), end address.
+pub fn audit_words(r: &crate::audit::Report) -> [u32; AUDIT_ANSWER] {
+    let mut words = [0; AUDIT_ANSWER];
+    words[..6].copy_from_slice(&[r.number, r.items, r.mains, r.ballots, (r.weight >> 32) as u32, r.weight as u32]);
+    words[6..].copy_from_slice(&r.end);
+    words
+}
+
+/// Kind (0 refused, 1 apart, 2 same, 3 collision), board (0 kept, 1 later), number, items,
+/// kept main number, later main number.
+pub fn compare_words(c: &Comparison) -> [u32; COMPARE_ANSWER] {
+    match *c {
+        Comparison::Refused { side, number, items } => [0, u32::from(side == Side::Later), number, items, 0, 0],
+        Comparison::Apart => [1, 0, 0, 0, 0, 0],
+        Comparison::Same => [2, 0, 0, 0, 0, 0],
+        Comparison::Collision { kept, later } => [3, 0, 0, 0, kept, later],
+    }
+}
+
+/// The static library's entries, where it is linked.
+#[cfg(feature = "library")]
+pub fn library() -> Option<Interface> {
+    #[rustfmt::skip]
+    extern "C" {
+        fn tirfolma_audit(
+            board: *const u32, board_len: usize, verdicts: *const u32, verdicts_len: usize,
+            index: *mut u32, index_len: usize, ballots: *mut u32, ballots_len: usize,
+            answer: *mut u32, answer_len: usize) -> bool;
+        fn tirfolma_compare(
+            kept: *const u32, kept_len: usize, kept_verdicts: *const u32, kept_verdicts_len: usize,
+            later: *const u32, later_len: usize, later_verdicts: *const u32, later_verdicts_len: usize,
+            main_number: usize,
+            kept_index: *mut u32, kept_index_len: usize, kept_ballots: *mut u32, kept_ballots_len: usize,
+            later_index: *mut u32, later_index_len: usize, later_ballots: *mut u32, later_ballots_len: usize,
+            answer: *mut u32, answer_len: usize) -> bool;
+        fn tirfolma_ancestry(
+            board: *const u32, board_len: usize, verdicts: *const u32, verdicts_len: usize,
+            item_number: usize,
+            index: *mut u32, index_len: usize, ballots: *mut u32, ballots_len: usize,
+            list: *mut u32, list_len: usize, answer: *mut u32, answer_len: usize) -> bool;
+    }
+    Some(Interface { audit: tirfolma_audit, compare: tirfolma_compare, ancestry: tirfolma_ancestry })
+}
+
+#[cfg(not(feature = "library"))]
+pub fn library() -> Option<Interface> {
+    None
+}
+
+/// The reference behind the same interface. The checks must pass it, and must find each of
+/// the mistakes it can be told to make.
+pub fn stand_in() -> Interface {
+    Interface { audit: stand_in_audit, compare: stand_in_compare, ancestry: stand_in_ancestry }
+}
+
+/// The mistake the stand-in makes: 0 is none.
+pub static MISTAKE: AtomicUsize = AtomicUsize::new(0);
+
+pub const MISTAKES: [&str; 11] = [
+    "none",
+    "an answer word is wrong",
+    "the last answer word is wrong",
+    "an index word is wrong",
+    "the last index word is not written",
+    "a ballot word is wrong",
+    "the last ballot word is not written",
+    "a word behind the index is written",
+    "a word behind the ballots is written",
+    "a short answer buffer is written",
+    "the result is wrong",
+];
+
+unsafe fn finish(answer: *mut u32, answer_len: usize, words: &[u32], tables: [(*mut u32, usize); 2]) -> bool {
+    let [(index, index_len), (ballots, ballots_len)] = tables;
+    let mistake = MISTAKE.load(Ordering::Relaxed);
+    let answer = from_raw_parts_mut(answer, answer_len);
+    answer[..words.len()].copy_from_slice(words);
+    match mistake {
+        1 => answer[0] ^= 1,
+        2 => answer[words.len() - 1] ^= 1,
+        3 if index_len > 0 => *index ^= 1,
+        4 if index_len > 0 => *index.add(index_len - 1) ^= 1,
+        5 if ballots_len > 1 => *ballots.add(1) ^= 1,
+        6 if ballots_len > 0 => *ballots.add(ballots_len - 1) ^= 1,
+        7 => *index.add(index_len) ^= 1,
+        8 => *ballots.add(ballots_len) ^= 1,
+        _ => {}
+    }
+    mistake != 10
+}
+
+unsafe fn too_short(answer: *mut u32, answer_len: usize) -> bool {
+    if MISTAKE.load(Ordering::Relaxed) == 9 && answer_len > 0 {
+        *answer ^= 1;
+    }
+    false
+}
+
+#[rustfmt::skip]
+unsafe extern "C" fn stand_in_audit(
+    board: *const u32, board_len: usize, verdicts: *const u32, verdicts_len: usize,
+    index: *mut u32, index_len: usize, ballots: *mut u32, ballots_len: usize,
+    answer: *mut u32, answer_len: usize,
+) -> bool {
+    if answer_len < AUDIT_ANSWER {
+        return too_short(answer, answer_len);
+    }
+    let report = audit(
+        from_raw_parts(board, board_len),
+        from_raw_parts(verdicts, verdicts_len),
+        from_raw_parts_mut(index, index_len),
+        from_raw_parts_mut(ballots, ballots_len),
+    );
+    finish(answer, answer_len, &audit_words(&report), [(index, index_len), (ballots, ballots_len)])
+}
+
+#[rustfmt::skip]
+unsafe extern "C" fn stand_in_compare(
+    kept: *const u32, kept_len: usize, kept_verdicts: *const u32, kept_verdicts_len: usize,
+    later: *const u32, later_len: usize, later_verdicts: *const u32, later_verdicts_len: usize,
+    main_number: usize,
+    kept_index: *mut u32, kept_index_len: usize, kept_ballots: *mut u32, kept_ballots_len: usize,
+    later_index: *mut u32, later_index_len: usize, later_ballots: *mut u32, later_ballots_len: usize,
+    answer: *mut u32, answer_len: usize,
+) -> bool {
+    if answer_len < COMPARE_ANSWER {
+        return too_short(answer, answer_len);
+    }
+    let comparison = compare(
+        Board { words: from_raw_parts(kept, kept_len), verdicts: from_raw_parts(kept_verdicts, kept_verdicts_len) },
+        Board { words: from_raw_parts(later, later_len), verdicts: from_raw_parts(later_verdicts, later_verdicts_len) },
+        main_number,
+        Tables {
+            index: from_raw_parts_mut(kept_index, kept_index_len),
+            ballots: from_raw_parts_mut(kept_ballots, kept_ballots_len),
+        },
+        Tables {
+            index: from_raw_parts_mut(later_index, later_index_len),
+            ballots: from_raw_parts_mut(later_ballots, later_ballots_len),
+        },
+    );
+    let tables = [(later_index, later_index_len), (later_ballots, later_ballots_len)];
+    finish(answer, answer_len, &compare_words(&comparison), tables)
+}
+
+#[rustfmt::skip]
+unsafe extern "C" fn stand_in_ancestry(
+    board: *const u32, board_len: usize, verdicts: *const u32, verdicts_len: usize,
+    item_number: usize,
+    index: *mut u32, index_len: usize, ballots: *mut u32, ballots_len: usize,
+    list: *mut u32, list_len: usize, answer: *mut u32, answer_len: usize,
+) -> bool {
+    if answer_len < ANCESTRY_ANSWER {
+        return too_short(answer, answer_len);
+    }
+    let given = ancestry(
+        from_raw_parts(board, board_len),
+        from_raw_parts(verdicts, verdicts_len),
+        item_number,
+        from_raw_parts_mut(index, index_len),
+        from_raw_parts_mut(ballots, ballots_len),
+        from_raw_parts_mut(list, list_len),
+    );
+    let tables = [(list, list_len), (ballots, ballots_len)];
+    finish(answer, answer_len, &[given.number, given.count], tables)
+}

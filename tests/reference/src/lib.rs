@@ -1,0 +1,23 @@
+//! An independent implementation of the board rules, written from the paper alone, and what
+//! is needed to hold the auditor against it: boards made from a seed, sound and faulty, and
+//! a comparison word by word over the C interface.
+//!
+//! The rules: `sha256`, `format`, `audit`, `compare`, `ancestry`, `program`.
+//! The boards: `random`, `plan`, `sound`, `faults`, `damage`, `collisions`.
+//! The checks: `interface`, `checks`, `stored`.
+
+pub mod ancestry;
+pub mod audit;
+pub mod checks;
+pub mod collisions;
+pub mod compare;
+pub mod damage;
+pub mod faults;
+pub mod format;
+pub mod interface;
+pub mod plan;
+pub mod program;
+pub mod random;
+pub mod sha256;
+pub mod sound;
+pub mod stored;

@@ -1,0 +1,629 @@
+//! Sound boards from a seed: an election played out, with a note of what the audit must report.
+
+use crate::format::*;
+use crate::plan::{Address, Link, Plan, Previous, Spec, GOOD};
+use crate::random::Random;
+use crate::sha256::Hash;
+
+/// What a board shall look like.
+#[derive(Clone, Copy, Debug)]
+pub struct Shape {
+    /// The number of items, reached exactly.
+    pub items: usize,
+    /// The number of words, reached exactly; none: as it comes.
+    pub words: Option<usize>,
+    /// How often, in a hundred, contents are long rather than short.
+    pub long: usize,
+    /// How many voters take part.
+    pub voters: usize,
+    /// Whether the ballots are extracted at the end.
+    pub extraction: bool,
+}
+
+/// The audit's answer to a sound board, as known from its making.
+#[derive(Clone, Debug, Default)]
+pub struct Expected {
+    /// Parent and session by item number, and the main items before; one row an item.
+    pub rows: Vec<[u32; 3]>,
+    pub mains: usize,
+    /// Main number of the ballot, voter, weight.
+    pub ballots: Vec<[u32; 3]>,
+}
+
+#[derive(Clone, Debug)]
+pub struct Made {
+    pub plan: Plan,
+    pub expected: Expected,
+}
+
+#[derive(Clone, Copy)]
+struct Round {
+    number: u32,
+    contests: u32,
+    start: u64,
+    end: u64,
+}
+
+struct Session {
+    voter: u32,
+    weight: u32,
+    key: [u32; 8],
+    contests: u32,
+    position: usize,
+}
+
+struct Maker<'a> {
+    random: &'a mut Random,
+    hash: Hash,
+    shape: Shape,
+    items: Vec<Spec>,
+    words: usize,
+    expected: Expected,
+    /// The time of the last main item.
+    now: u64,
+    administrator: [u32; 8],
+    ballot_box: [u32; 8],
+    authorizer: [u32; 8],
+    contests: u32,
+    rounds: Vec<Round>,
+    trustees: u32,
+    threshold: u32,
+    config: usize,
+    /// Whether an intent to extract stands.
+    ended: bool,
+    voters: Vec<u32>,
+    sessions: Vec<Session>,
+    /// Positions of items that may still get a child of the type that follows.
+    commitments: Vec<usize>,
+    answered: Vec<usize>,
+    undecided: Vec<usize>,
+    untracked: Vec<usize>,
+    tracks: Vec<usize>,
+    verifiers: Vec<usize>,
+    opened: Vec<usize>,
+    intents: Vec<usize>,
+    extractions: Vec<usize>,
+    /// Counted casts: position of the ballot, voter, weight.
+    counted: Vec<(usize, u32, u32)>,
+}
+
+/// A random sound board of this shape.
+pub fn make(random: &mut Random, hash: Hash, shape: Shape) -> Made {
+    for _ in 0..1_000 {
+        if let Some(made) = try_make(random, hash, shape) {
+            return made;
+        }
+    }
+    panic!("no board of this shape can be made: {shape:?}");
+}
+
+/// A shape for a board of up to `most` items.
+pub fn any_shape(random: &mut Random, most: usize) -> Shape {
+    let items = if random.chance(15) { random.between(1, 14.min(most)) } else { random.between(1, most) };
+    Shape {
+        items,
+        words: None,
+        long: *random.pick(&[0, 5, 20, 60]),
+        voters: random.between(1, 2 + items / 12),
+        extraction: random.chance(60),
+    }
+}
+
+fn try_make(random: &mut Random, hash: Hash, shape: Shape) -> Option<Made> {
+    let first_time = match random.below(4) {
+        0 => 0,
+        1 => random.below(5) as u64,
+        2 => 1_790_000_000_000 + random.below(1_000_000_000) as u64,
+        _ => (1 << 32) - random.below(2_000) as u64,
+    };
+    let mut maker = Maker {
+        hash,
+        shape,
+        items: Vec::new(),
+        words: 1,
+        expected: Expected::default(),
+        now: first_time,
+        administrator: random.eight(),
+        ballot_box: random.eight(),
+        authorizer: ZEROS,
+        contests: 0,
+        rounds: Vec::new(),
+        trustees: 0,
+        threshold: 0,
+        config: 0,
+        ended: false,
+        voters: Vec::new(),
+        sessions: Vec::new(),
+        commitments: Vec::new(),
+        answered: Vec::new(),
+        undecided: Vec::new(),
+        untracked: Vec::new(),
+        tracks: Vec::new(),
+        verifiers: Vec::new(),
+        opened: Vec::new(),
+        intents: Vec::new(),
+        extractions: Vec::new(),
+        counted: Vec::new(),
+        random,
+    };
+    if maker.random.chance(4) {
+        maker.ballot_box = maker.administrator;
+    }
+    for _ in 0..shape.voters.max(1) {
+        let voter = if maker.random.chance(80) { maker.random.below(1000) as u32 } else { maker.random.word() };
+        maker.voters.push(voter);
+    }
+    maker.run();
+    if maker.items.len() != shape.items || shape.words.is_some_and(|w| w != maker.words) {
+        return None;
+    }
+    let mut expected = maker.expected;
+    for &(ballot, voter, weight) in &maker.counted {
+        expected.ballots.push([expected.rows[ballot][2] + 1, voter, weight]);
+    }
+    Some(Made { plan: Plan::new(maker.items), expected })
+}
+
+impl Maker<'_> {
+    fn run(&mut self) {
+        self.genesis();
+        // The extraction needs three items at the least, and an exact size some texts before it.
+        let at_end = if self.shape.extraction { self.random.between(3, 6) } else { 0 };
+        let texts = if self.shape.words.is_some() { 24 } else { 0 };
+        let before_end = self.shape.items.saturating_sub(at_end + texts);
+        self.set_up(before_end);
+        while self.items.len() < before_end {
+            self.step();
+        }
+        if let Some(words) = self.shape.words {
+            let extraction = if at_end > 0 { self.extraction_words(at_end) } else { 0 };
+            self.fill(texts, words.saturating_sub(extraction));
+        }
+        if at_end > 0 && self.threshold > 0 {
+            self.extract(at_end);
+        }
+        while self.items.len() < self.shape.items && self.shape.words.is_none() {
+            if !self.ended {
+                self.step();
+            } else if !self.hidden_step() {
+                self.intent();
+            }
+        }
+    }
+
+    fn length(&mut self, least: usize, most: usize) -> usize {
+        if self.random.chance(self.long_now()) {
+            self.random.between(least, most)
+        } else {
+            self.random.between(least, (least + 3).min(most))
+        }
+    }
+
+    /// Where an exact size is wanted, long contents are chosen by how many words are left an item.
+    fn long_now(&self) -> usize {
+        match self.shape.words {
+            None => self.shape.long,
+            Some(words) => {
+                let items_left = self.shape.items.saturating_sub(self.items.len()).max(1);
+                let words_left = words.saturating_sub(self.words);
+                if words_left / items_left > 85 {
+                    100
+                } else {
+                    0
+                }
+            }
+        }
+    }
+
+    /// A time for the next main item: often the same, mostly a little later.
+    fn later(&mut self) -> u64 {
+        let step = match self.random.below(10) {
+            0..=3 => 0,
+            4..=8 => self.random.between(1, 50) as u64,
+            _ => self.random.between(100, 5_000) as u64,
+        };
+        self.now + step
+    }
+
+    fn add(&mut self, code: u32, parent: usize, content: Vec<u32>, time: u64, key: [u32; 8]) -> usize {
+        let position = self.items.len();
+        let kind = kind_of(code).expect("a listed type");
+        let session = match code {
+            SESSION => position as u32 + 1,
+            GENESIS => NO_SESSION,
+            _ => self.expected.rows[parent][1],
+        };
+        self.expected.rows.push([parent as u32 + 1, session, self.expected.mains as u32]);
+        if kind == MAIN {
+            self.expected.mains += 1;
+            self.now = time;
+        }
+        self.words += content.len() + FRAME;
+        self.items.push(Spec {
+            kind,
+            code,
+            count: None,
+            content,
+            parent: if code == GENESIS { Link::Zeros } else { Link::Item(parent) },
+            previous: Previous::Right,
+            time,
+            signature: std::array::from_fn(|_| self.random.word()),
+            address: Address::Right,
+            verdict: GOOD,
+            key,
+        });
+        if is_config(code) {
+            self.config = position;
+        }
+        position
+    }
+
+    fn configure(&mut self, code: u32, content: Vec<u32>) {
+        let time = self.later();
+        self.add(code, self.config, content, time, self.administrator);
+    }
+
+    fn genesis(&mut self) {
+        let mut content = vec![self.random.word()];
+        content.extend(self.administrator);
+        content.extend(self.ballot_box);
+        self.add(GENESIS, 0, content, self.now, self.administrator);
+    }
+
+    /// Contests, threshold, authorizer and a round, in some order, as far as they go.
+    fn set_up(&mut self, most: usize) {
+        let many = self.shape.long >= 60 || self.shape.words.is_some();
+        let contests = if many { self.random.between(20, 32) } else { self.random.between(1, 6) };
+        let mut wanted = vec![THRESHOLD, AUTHORIZER];
+        wanted.extend(vec![CONTEST; contests.min(1 + self.shape.items / 10)]);
+        for _ in 0..self.random.below(3) {
+            wanted.push(*self.random.pick(&[TEXT, CONTEST, AUTHORIZER]));
+        }
+        while !wanted.is_empty() && self.items.len() < most {
+            let at = self.random.below(wanted.len());
+            match wanted.swap_remove(at) {
+                THRESHOLD => self.add_threshold(),
+                AUTHORIZER => self.add_authorizer(),
+                CONTEST => self.add_contest(),
+                _ => self.add_text(),
+            }
+        }
+        for _ in 0..self.random.between(1, 3) {
+            if self.items.len() < most && self.contests != 0 {
+                self.add_round(None);
+            }
+        }
+    }
+
+    fn add_text(&mut self) {
+        let length = self.length(0, 64);
+        let content = self.random.words(length);
+        self.configure(TEXT, content);
+    }
+
+    fn add_contest(&mut self) {
+        let number = if self.random.chance(70) && self.contests != u32::MAX {
+            self.random.bit(!self.contests).trailing_zeros()
+        } else {
+            self.random.below(32) as u32
+        };
+        let mut content = vec![number];
+        let length = self.length(0, 64);
+        content.extend(self.random.words(length));
+        self.configure(CONTEST, content);
+        self.contests |= 1 << number;
+    }
+
+    fn add_threshold(&mut self) {
+        let m = if self.random.chance(30) { self.random.between(1, 32) } else { self.random.between(1, 7) };
+        let t = self.random.between(1, m);
+        (self.trustees, self.threshold) = (m as u32, t as u32);
+        let mut content = vec![m as u32, t as u32];
+        content.extend(self.random.eight());
+        self.configure(THRESHOLD, content);
+    }
+
+    fn add_authorizer(&mut self) {
+        self.authorizer = self.random.eight();
+        let mut content = vec![self.random.between(1, 2) as u32];
+        content.extend(self.authorizer);
+        self.configure(AUTHORIZER, content);
+    }
+
+    /// A round with some of the contests, or with all of those given.
+    fn add_round(&mut self, with: Option<u32>) {
+        let time = self.later();
+        let number = match self.random.below(4) {
+            0 if !self.rounds.is_empty() => self.random.pick(&self.rounds).number,
+            _ => self.random.below(16) as u32,
+        };
+        let contests = with.unwrap_or(0) | self.random.subset(self.contests);
+        let start = match self.random.below(6) {
+            0 => 0,
+            1 => time + self.random.below(100) as u64,
+            2 => time.saturating_sub(self.random.below(1 << 20) as u64),
+            _ => time,
+        };
+        let end = match self.random.below(8) {
+            0 => u64::MAX,
+            1 => start + 1 + self.random.below(200) as u64,
+            2 => time + (1 << 33),
+            _ => start.max(time) + self.random.between(1_000, 1_000_000) as u64,
+        };
+        let words = [number, contests, (start >> 32) as u32, start as u32, (end >> 32) as u32, end as u32];
+        self.add(ROUND, self.config, words.to_vec(), time, self.administrator);
+        self.rounds.retain(|r| r.number != number);
+        self.rounds.push(Round { number, contests, start, end });
+    }
+
+    fn enabled(&self, time: u64) -> u32 {
+        let open = self.rounds.iter().filter(|r| r.start <= time && time < r.end);
+        open.fold(0, |set, r| set | r.contests)
+    }
+
+    /// A time at which a round is open; none where that takes a new round.
+    fn voting_time(&mut self) -> Option<u64> {
+        let mut times = vec![self.later(), self.later(), self.now];
+        if self.random.chance(3) {
+            // The first and the last moment of a round.
+            let round = *self.random.pick(&self.rounds);
+            times = vec![round.start, round.end - 1];
+            times.retain(|&t| t < self.now + (1 << 34));
+        }
+        times.retain(|&t| t >= self.now && self.enabled(t) != 0);
+        if times.is_empty() {
+            None
+        } else {
+            Some(*self.random.pick(&times))
+        }
+    }
+
+    /// One more item of the voting phase.
+    fn step(&mut self) {
+        let ready = self.threshold > 0 && self.authorizer != ZEROS && self.contests != 0;
+        let choice = self.random.below(100);
+        if choice < 3 || !ready {
+            match self.random.below(4) {
+                0 => self.add_contest(),
+                1 if self.threshold > 0 => self.add_authorizer(),
+                2 if self.contests != 0 => self.add_round(None),
+                _ => self.add_text(),
+            }
+            return;
+        }
+        if choice < 18 && self.hidden_step() {
+            return;
+        }
+        if self.rounds.is_empty() {
+            return self.add_round(None);
+        }
+        let Some(time) = self.voting_time() else {
+            return self.add_round(None);
+        };
+        match self.random.below(100) {
+            0..=34 if !self.undecided.is_empty() => self.decide(time),
+            0..=54 if !self.answered.is_empty() => self.ballot(time),
+            0..=74 if !self.commitments.is_empty() => self.answer(time),
+            0..=89 if !self.sessions.is_empty() => self.commit(time),
+            _ => self.session(time),
+        }
+    }
+
+    fn session(&mut self, time: u64) {
+        let voter = *self.random.pick(&self.voters);
+        let weight = match self.random.below(8) {
+            0 => u32::MAX,
+            1 => self.random.word() | 1,
+            _ => self.random.between(1, 9) as u32,
+        };
+        let key = match self.random.below(12) {
+            0 if !self.sessions.is_empty() => self.random.pick(&self.sessions).key,
+            _ => self.random.eight(),
+        };
+        let all = self.random.chance(40) || self.long_now() == 100;
+        let contests = if all { self.contests } else { self.random.subset(self.contests) };
+        let mut content = vec![voter, weight];
+        content.extend(key);
+        content.extend(self.random.eight());
+        content.push(contests);
+        let position = self.add(SESSION, self.config, content, time, self.authorizer);
+        // The voter's earlier session is overwritten: nothing may follow in it.
+        self.sessions.retain(|s| s.voter != voter);
+        self.sessions.push(Session { voter, weight, key, contests, position });
+        let live: Vec<u32> = self.sessions.iter().map(|s| s.position as u32 + 1).collect();
+        let rows = &self.expected.rows;
+        for list in [&mut self.commitments, &mut self.answered, &mut self.undecided] {
+            list.retain(|&i| live.contains(&rows[i][1]));
+        }
+    }
+
+    /// The session that an item is in.
+    fn session_of(&self, position: usize) -> usize {
+        let number = self.expected.rows[position][1] as usize;
+        self.sessions.iter().position(|s| s.position + 1 == number).expect("the session is live")
+    }
+
+    fn commitment(&mut self) -> Vec<u32> {
+        let mut content = self.random.words(9);
+        content[8] &= 0xff00_0000;
+        content
+    }
+
+    fn commit(&mut self, time: u64) {
+        let at = self.random.below(self.sessions.len());
+        let content = self.commitment();
+        let (position, key) = (self.sessions[at].position, self.sessions[at].key);
+        let added = self.add(VOTER_COMMITMENT, position, content, time, key);
+        self.commitments.push(added);
+    }
+
+    fn take(random: &mut Random, list: &mut Vec<usize>) -> usize {
+        let at = random.below(list.len());
+        list.swap_remove(at)
+    }
+
+    fn answer(&mut self, time: u64) {
+        let parent = Self::take(self.random, &mut self.commitments);
+        let content = self.commitment();
+        let added = self.add(SERVER_COMMITMENT, parent, content, time, self.ballot_box);
+        self.answered.push(added);
+    }
+
+    fn ballot(&mut self, time: u64) {
+        let parent = *self.random.pick(&self.answered);
+        let session = self.session_of(parent);
+        let (key, of_session) = (self.sessions[session].key, self.sessions[session].contests);
+        let possible = of_session & self.enabled(time);
+        if possible == 0 {
+            return self.add_round(Some(of_session));
+        }
+        self.answered.retain(|&i| i != parent);
+        let contests = match self.long_now() {
+            100 => possible,
+            long if self.random.chance(long) => self.random.subset(possible),
+            _ if self.random.chance(70) => self.random.bit(possible),
+            _ => self.random.subset(possible) & self.random.subset(possible) | self.random.bit(possible),
+        };
+        let mut content = vec![contests];
+        for _ in 0..contests.count_ones() {
+            content.extend(self.random.words(CRYPTOGRAM - 1));
+            content.push(self.random.word() & 0xffff_0000);
+        }
+        let added = self.add(BALLOT, parent, content, time, key);
+        self.undecided.push(added);
+        self.untracked.push(added);
+    }
+
+    fn decide(&mut self, time: u64) {
+        let ballot = Self::take(self.random, &mut self.undecided);
+        let session = self.session_of(ballot);
+        let Session { voter, weight, key, .. } = self.sessions[session];
+        if self.random.chance(70) {
+            self.add(CAST, ballot, Vec::new(), time, key);
+            self.counted.retain(|c| c.1 != voter);
+            self.counted.push((ballot, voter, weight));
+        } else {
+            self.add(SPOIL, ballot, Vec::new(), time, key);
+        }
+    }
+
+    /// One more item of a hidden track; false where none can follow.
+    fn hidden_step(&mut self) -> bool {
+        let lists = [&self.untracked, &self.tracks, &self.verifiers, &self.opened];
+        let possible: Vec<usize> = (0..4).filter(|&i| !lists[i].is_empty()).collect();
+        if possible.is_empty() {
+            return false;
+        }
+        let stage = *self.random.pick(&possible);
+        let list = match stage {
+            0 => &mut self.untracked,
+            1 => &mut self.tracks,
+            2 => &mut self.verifiers,
+            _ => &mut self.opened,
+        };
+        let parent = Self::take(self.random, list);
+        let earliest = self.items[parent].time;
+        let time = match self.random.below(5) {
+            0 => earliest,
+            1 => earliest.saturating_add(1 << 40),
+            _ => earliest + self.random.below(5_000) as u64,
+        };
+        match stage {
+            0 => {
+                let added = self.add(TRACK, parent, Vec::new(), time, self.ballot_box);
+                self.tracks.push(added);
+            }
+            1 => {
+                let key = self.random.eight();
+                let added = self.add(VERIFIER, parent, key.to_vec(), time, key);
+                self.verifiers.push(added);
+            }
+            2 => {
+                let session = self.expected.rows[parent][1] as usize - 1;
+                let key = eight(&self.items[session].content, 2);
+                let length = self.length(1, 256);
+                let content = self.random.words(length);
+                let added = self.add(VOTER_OPENING, parent, content, time, key);
+                self.opened.push(added);
+            }
+            _ => {
+                let length = self.length(1, 256);
+                let content = self.random.words(length);
+                self.add(SERVER_OPENING, parent, content, time, self.ballot_box);
+            }
+        }
+        true
+    }
+
+    /// Texts that bring the board to an exact number of words.
+    fn fill(&mut self, texts: usize, words: usize) {
+        for left in (1..=texts).rev() {
+            let Some(room) = words.checked_sub(self.words) else { return };
+            let share = room / left;
+            if share < FRAME || share > FRAME + 64 {
+                return;
+            }
+            let content = self.random.words(share - FRAME);
+            self.configure(TEXT, content);
+        }
+    }
+
+    /// The words that `extract` will add where a size is exact: no hidden items, least sets.
+    fn extraction_words(&self, items: usize) -> usize {
+        3 * FRAME + 8 + 1 + TRUSTEE * self.threshold as usize + (items - 3) * FRAME
+    }
+
+    fn intent(&mut self) {
+        let time = self.later();
+        let added = self.add(INTENT, self.config, Vec::new(), time, self.administrator);
+        self.intents.push(added);
+        self.ended = true;
+    }
+
+    fn extract(&mut self, items: usize) {
+        let exact = self.shape.words.is_some();
+        let end = self.items.len() + items;
+        if exact {
+            for _ in 3..items {
+                self.intent();
+            }
+        }
+        self.intent();
+        while self.items.len() < end {
+            match self.random.below(if exact { 2 } else { 4 }) {
+                0 if !self.extractions.is_empty() => self.confirm(exact),
+                0 | 1 if !self.intents.is_empty() && (!exact || self.items.len() + 2 == end) => self.extraction(),
+                2 => {
+                    self.hidden_step();
+                }
+                3 => self.intent(),
+                _ => {}
+            }
+        }
+    }
+
+    fn extraction(&mut self) {
+        let parent = Self::take(self.random, &mut self.intents);
+        let mut message = Vec::new();
+        for &(ballot, _, _) in &self.counted {
+            message.extend_from_slice(&self.items[ballot].content);
+        }
+        let content = (self.hash)(&message).to_vec();
+        let time = self.later();
+        let added = self.add(EXTRACTION, parent, content, time, self.ballot_box);
+        self.extractions.push(added);
+    }
+
+    fn confirm(&mut self, least: bool) {
+        let parent = Self::take(self.random, &mut self.extractions);
+        let below_m = if self.trustees == 32 { u32::MAX } else { (1 << self.trustees) - 1 };
+        let mut set = if least { 0 } else { self.random.subset(below_m) };
+        while set.count_ones() < self.threshold {
+            set |= self.random.bit(below_m & !set);
+        }
+        let mut content = vec![set];
+        content.extend(self.random.words(TRUSTEE * set.count_ones() as usize));
+        let time = self.later();
+        self.add(CONFIRMATION, parent, content, time, self.administrator);
+    }
+}
