@@ -76,28 +76,31 @@ module _ {board index : List ℕ} {s : State} {c : Known} (a : AtItem board inde
 
   -- ---- one under a parent
 
-  -- b says whether a parent may have one item of the type only
-  module _ (b : Bool) (is : b ≡ (between 18 19 (c .item .head .code) || between 33 34 (c .item .head .code) || between 48 51 (c .item .head .code))) where
-    pub parent-other : b ≡ false → true ≡ underParentOk h i
-    unfolding underParentOk _⇒_
-    parent-other q = rw (← at-code a, ← is, q)
+  -- a parent may have one item of the type only
+  abbrev single : Bool
+  single = between 18 19 (c .item .head .code) || between 33 34 (c .item .head .code) || between 48 51 (c .item .head .code)
 
-    pub parent-some : b ≡ true → (r : Bool) → r ≡ any (childOf (c .parent) (between (c .item .head .code) (c .item .head .code))) h → not r ≡ underParentOk h i
-    unfolding underParentOk _⇒_
-    parent-some q r e =
-        let n = c .item .head .code in
-        let same : any (childOf (c .parent) (between n n)) h ≡ any (childOf (c .parent) (λ x. eqb x n)) h =
-        any-ext (childOf (c .parent) (between n n)) (childOf (c .parent) (λ x. eqb x n)) (λ x. rw (only-one n (code (x .item)))) h in
-        rw (← at-code a, ← is, q, ← at-parent a) (ap not (e ∙ same))
+  pub parent-other : single ≡ false → true ≡ underParentOk h i
+  unfolding underParentOk _⇒_
+  parent-other q = rw (← at-code a, q)
+
+  pub parent-some : single ≡ true → (r : Bool) → r ≡ any (childOf (c .parent) (between (c .item .head .code) (c .item .head .code))) h
+      → not r ≡ underParentOk h i
+  unfolding underParentOk _⇒_
+  parent-some q r e =
+      let n = c .item .head .code in
+      let range = childOf (c .parent) (between n n) in
+      let one = childOf (c .parent) (λ x. eqb x n) in
+      let same : any range h ≡ any one h = any-ext range one (λ x. rw (only-one n (code (x .item)))) h in
+      rw (← at-code a, q, ← at-parent a) (ap not (e ∙ same))
 
   -- ---- one of either under a ballot
 
-  -- b says whether the item is of types 20 and 21
-  module _ (b : Bool) (is : b ≡ between 20 21 (c .item .head .code)) where
-    pub ballot-other : b ≡ false → true ≡ underBallotOk h i
-    unfolding underBallotOk _⇒_
-    ballot-other q = rw (← at-code a, ← is, q)
+  pub ballot-other : between 20 21 (c .item .head .code) ≡ false → true ≡ underBallotOk h i
+  unfolding underBallotOk _⇒_
+  ballot-other q = rw (← at-code a, q)
 
-    pub ballot-some : b ≡ true → (r : Bool) → r ≡ any (childOf (c .parent) (between 20 21)) h → not r ≡ underBallotOk h i
-    unfolding underBallotOk _⇒_
-    ballot-some q r e = rw (← at-code a, ← is, q, ← at-parent a) (ap not e)
+  pub ballot-some : between 20 21 (c .item .head .code) ≡ true → (r : Bool) → r ≡ any (childOf (c .parent) (between 20 21)) h
+      → not r ≡ underBallotOk h i
+  unfolding underBallotOk _⇒_
+  ballot-some q r e = rw (← at-code a, q, ← at-parent a) (ap not e)

@@ -54,7 +54,9 @@ module _ {board index : List ℕ} {s : State} {c : Known} (a : AtItem board inde
   module _ (p : ℕ) (is : p ≡ phaseNumber (c .item .head .code)) where
     after : s .intent ≢ 0 → extractionOk h i ≡ (eqb p 2 || eqb p 3)
     unfolding extractionOk _⇒_
-    after q = rw (any-intent, ne-eqb (s .intent) 0 q, is, extraction-phase (c .item .head .code), track-phase (c .item .head .code), at-code a)
+    after q =
+        let n = c .item .head .code in
+        rw (any-intent, ne-eqb (s .intent) 0 q, is, extraction-phase n, track-phase n, at-code a)
 
     pub extraction-type : s .intent ≢ 0 → p ≡ 2 → eqb p 2 ≡ extractionOk h i
     extraction-type q e = rw (after q, eq-eqb p 2 e)
@@ -71,7 +73,8 @@ module _ {board index : List ℕ} {s : State} {c : Known} (a : AtItem board inde
     unfolding openOk _⇒_
     open-other e = rw (← voting, ne-eqb p 1 e)
 
-    pub open-voting : p ≡ 1 → (t : ℕ) → t ≡ pair (part (c .item .time) 2 board) → (r : Bool) → r ≡ any (isOpen t) (rounds h) → r ≡ openOk h i
+    pub open-voting : p ≡ 1 → (t : ℕ) → t ≡ pair (part (c .item .time) 2 board) → (r : Bool) → r ≡ any (isOpen t) (rounds h)
+        → r ≡ openOk h i
     unfolding openOk _⇒_
     open-voting e t own r q = rw (← voting, eq-eqb p 1 e) (q ∙ ap (λ (k : ℕ). any (isOpen k) (rounds h)) (own ∙ at-time a))
 
@@ -91,24 +94,23 @@ module _ {board index : List ℕ} {s : State} {c : Known} (a : AtItem board inde
 
   -- ---- the latest session of its voter
 
-  -- b says whether the item is of types 17 to 21
-  module _ (b : Bool) (is : b ≡ between 17 21 (c .item .head .code)) where
-    pub latest-other : b ≡ false → true ≡ latestOk h i
-    unfolding latestOk _⇒_
-    latest-other q = rw (← at-code a, ← is, q)
+  pub latest-other : between 17 21 (c .item .head .code) ≡ false → true ≡ latestOk h i
+  unfolding latestOk _⇒_
+  latest-other q = rw (← at-code a, q)
 
-    pub latest-some : b ≡ true → (voter : ℕ) → voter ≡ sessionVoter (itemNo h (c .session)) → (l : ℕ) → l ≡ last (sessionOf voter) h
+  module _ (under : between 17 21 (c .item .head .code) ≡ true) where
+    pub latest-some : (voter : ℕ) → voter ≡ sessionVoter (itemNo h (c .session)) → (l : ℕ) → l ≡ last (sessionOf voter) h
         → eqb (c .session) l ≡ latestOk h i
     unfolding latestOk _⇒_
-    latest-some q voter v l e = rw (← at-code a, ← is, q, ← at-session a, ← v, e)
+    latest-some voter v l e = rw (← at-code a, under, ← at-session a, ← v, e)
 
-    not-session : b ≡ true → c .item .head .code ≢ sessionType
-    not-session q e = let range = simp facts at (passes (sym is ∙ q)) in omega arith
+    not-session : c .item .head .code ≢ sessionType
+    not-session e = let range = simp facts at (passes under) in omega arith
 
-    pub session-under : b ≡ true → IsSession h (c .session)
-    session-under q = record {
-      bound = rw (length-history base board (s .items)) (session-in-range a (not-session q));
-      session = λ l. eqb→eq (code (itemNo h (c .session))) sessionType (session-is a (not-session q) l);
+    pub session-under : IsSession h (c .session)
+    session-under = record {
+      bound = rw (length-history base board (s .items)) (session-in-range a not-session);
+      session = λ l. eqb→eq (code (itemNo h (c .session))) sessionType (session-is a not-session l);
     }
 
   -- ---- a threshold for an extraction intent

@@ -66,7 +66,8 @@ module _ {board : List ℕ} {e : Known} (r : IsRound board e) where
       rw (add, at) (sym (pair-inside board _ _ 4 (omega (arith, r .words)) (omega (arith, r .words))))
 
   -- start ≤ time < end, by its two tests
-  module _ (t start end : ℕ) (s : start ≡ pair (part (e .item .content + 2) 2 board)) (f : end ≡ pair (part (e .item .content + 2 + 2) 2 board)) where
+  module _ (t start end : ℕ)
+      (s : start ≡ pair (part (e .item .content + 2) 2 board)) (f : end ≡ pair (part (e .item .content + 2 + 2) 2 board)) where
     pub open-started : start ≤ t → ltb t end ≡ isOpen t (itemAt base board (e .item .place))
     unfolding isOpen
     open-started l = rw (← round-start, ← round-end, ← s, ← f, le-leb start t l)

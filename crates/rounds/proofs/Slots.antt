@@ -7,7 +7,7 @@ use mathlib.Core.Bool.{Bool, true, false}
 use mathlib.Core.List.{List}
 use lib.Bits.{bitOr}
 use lib.ListN.{getD}
-use lib.Dec.{eqb, eqb→eq}
+use lib.Dec.{T, eqb, eqb→eq}
 use borrow.Author.Tests.{ne-eqb}
 use Rattle.model.specs.Lists.{any}
 use Rattle.model.specs.Codes.{roundType}
@@ -27,12 +27,15 @@ use Rattle.rounds.specs.Open.{InForce, openUnder, contestsUnder}
 
 -- the round in force with the number j is a round
 pub force-at : (h : History) (j : ℕ) → InForce h (roundAt h j)
-force-at h j = record {
-  bound = roundAt-bound h j;
-  round = λ l.
-      let found = last-found (numbered j) (λ e. Unit) h (every (λ e. Unit) (λ e. tt) h) (rw (any-last (numbered j) h, ne-eqb (roundAt h j) 0 (λ q. omega arith)) tt) .0 in
-      eqb→eq (code (itemNo h (roundAt h j))) roundType (and-iff (typed roundType (entry h (roundAt h j))) (eqb (roundNumber (itemNo h (roundAt h j))) j) .0 found .0);
-}
+force-at h j =
+    let k = roundAt h j in
+    record {
+      bound = roundAt-bound h j;
+      round = λ l.
+          let some : T (any (numbered j) h) = rw (any-last (numbered j) h, ne-eqb k 0 (λ q. omega arith)) tt in
+          let found = last-found (numbered j) (λ e. Unit) h (every (λ e. Unit) (λ e. tt) h) some .0 in
+          eqb→eq (code (itemNo h k)) roundType (and-iff (typed roundType (entry h k)) (eqb (roundNumber (itemNo h k)) j) .0 found .0);
+    }
 
 -- whether one of the slots below j holds a round that is open at the time t
 abbrev pub openBelow : ℕ → History → ℕ → Bool
@@ -58,32 +61,34 @@ pub contestsBelow-all : (t : ℕ) (h : History) (j : ℕ) → j ≤ 16 → 16 �
 unfolding enabledSet
 contestsBelow-all t h j l m = let all : j ≡ 16 = omega arith in rw all
 
-openBelow-rounds : {board index : List ℕ} {n : ℕ} → Kept board index n → (t : ℕ) → any (isOpen t) (rounds (before board n)) ≡ openBelow t (before board n) 16
+openBelow-rounds : {board index : List ℕ} {n : ℕ} → Kept board index n → (t : ℕ)
+    → any (isOpen t) (rounds (before board n)) ≡ openBelow t (before board n) 16
 unfolding openUnder
 openBelow-rounds {board} {index} {n} kept t = any-rounds (isOpen t) (before board n) (rounds-small (kept .passed))
 
 -- ---- a turn of the loop: slot j holds the item number k
 
-module _ {board index : List ℕ} {s : State} (kept : Kept board index (s .items)) (a : Stands board s) (j k : ℕ) (l : j < 16) (is : k ≡ getD (s .rounds) j 0) where
+module _ {board index : List ℕ} {s : State} (kept : Kept board index (s .items)) (a : Stands board s)
+    (j k : ℕ) (l : j < 16) (is : k ≡ getD (s .rounds) j 0) where
   abbrev h : History
   h = before board (s .items)
 
   slot : k ≡ roundAt h j
   slot = is ∙ a .rounds j l
 
-  pub force-in : InForce (before board (s .items)) k
+  pub force-in : InForce h k
   force-in = rw slot (force-at h j)
 
   module _ (t : ℕ) where
-    pub open-found : openUnder t (before board (s .items)) k ≡ true → any (isOpen t) (rounds (before board (s .items))) ≡ true
+    pub open-found : openUnder t h k ≡ true → any (isOpen t) (rounds h) ≡ true
     open-found q = openBelow-rounds kept t ∙ anyBelow-found (λ i. openUnder t h (roundAt h i)) 16 j l (rw slot at q)
 
-    pub open-next : openBelow t (before board (s .items)) j ≡ false → openUnder t (before board (s .items)) k ≡ false
-        → openBelow t (before board (s .items)) (j + 1) ≡ false
+    pub open-next : openBelow t h j ≡ false → openUnder t h k ≡ false
+        → openBelow t h (j + 1) ≡ false
     open-next none q = anyBelow-none (λ i. openUnder t h (roundAt h i)) j none (rw slot at q)
 
-    pub contests-next : (old new : ℕ) → old ≡ contestsBelow t (before board (s .items)) j → new ≡ contestsUnder t (before board (s .items)) k
-        → bitOr old new ≡ contestsBelow t (before board (s .items)) (j + 1)
+    pub contests-next : (old new : ℕ) → old ≡ contestsBelow t h j → new ≡ contestsUnder t h k
+        → bitOr old new ≡ contestsBelow t h (j + 1)
     contests-next old new p q = rw (unionBelow-next (openContests t h) j, contests-slot t h j, ← slot, p, q)
 
 -- after the last

@@ -14,13 +14,27 @@ is-between-requires-2 : tie.Need-is-between-requires-2
 is-between-requires-2 c κs = search needs
 
 returns-2 : tie.Need-returns-2
-returns-2 c = rw (sym (c .before .before .before .is-between .ensures) ∙ c .before .before .if1 .left, sym (c .before .is-between2 .ensures) ∙ c .if2 .taken)
+returns-2 c =
+    let e1 = c .before .before in
+    rw (sym (e1 .before .is-between .ensures) ∙ e1 .if1 .left, sym (c .before .is-between2 .ensures) ∙ c .if2 .taken)
 
 is-between-requires-3 : tie.Need-is-between-requires-3
 is-between-requires-3 c κs = search needs
 
 returns-3 : tie.Need-returns-3
-returns-3 c = rw (sym (c .before .before .before .before .is-between .ensures) ∙ c .before .before .before .if1 .left, sym (c .before .before .is-between2 .ensures) ∙ c .before .if2 .left) (c .is-between3 .ensures)
+returns-3 c =
+    let e1 = c .before .before .before in
+    let e2 = c .before in
+    rw (sym (e1 .before .is-between .ensures) ∙ e1 .if1 .left, sym (e2 .before .is-between2 .ensures) ∙ e2 .if2 .left)
+    (c .is-between3 .ensures)
 
 pub is-single-spec : {M : Type 1} → statement M
-is-single-spec = tie.close (tie.spec is-between-requires returns is-between-requires-2 returns-2 is-between-requires-3 returns-3)
+is-single-spec =
+    tie.close
+    (tie.spec
+    is-between-requires
+    returns
+    is-between-requires-2
+    returns-2
+    is-between-requires-3
+    returns-3)

@@ -13,10 +13,14 @@ of-requires : tie.Need-of-requires
 of-requires c κs = search needs
 
 returns-2 : tie.Need-returns-2
-returns-2 c = extraction-type (c .before .before .before .before .before .before .pre) _ (ap (λ (p : Phase). p .number) (c .before .of .ensures)) (c .before .before .if1 .left) (c .if2 .taken)
+returns-2 c =
+    let e1 = c .before .before in
+    extraction-type (e1 .before .before .before .before .pre) _ (ap (λ (p : Phase). p .number) (c .before .of .ensures)) (e1 .if1 .left) (c .if2 .taken)
 
 returns-3 : tie.Need-returns-3
-returns-3 c = extraction-other (c .before .before .before .before .before .before .pre) _ (ap (λ (p : Phase). p .number) (c .before .of .ensures)) (c .before .before .if1 .left) (c .if2 .left)
+returns-3 c =
+    let e1 = c .before .before in
+    extraction-other (e1 .before .before .before .before .pre) _ (ap (λ (p : Phase). p .number) (c .before .of .ensures)) (e1 .if1 .left) (c .if2 .left)
 
 pub extraction-ok-spec : {M : Type 1} → statement M
 extraction-ok-spec = tie.close (tie.spec returns of-requires returns-2 returns-3)

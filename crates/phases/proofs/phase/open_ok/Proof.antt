@@ -21,7 +21,10 @@ is-any-open-requires : tie.Need-is-any-open-requires
 is-any-open-requires c κs = search needs
 
 returns-2 : tie.Need-returns-2
-returns-2 c = open-voting (c .before .before .before .before .before .before .before .pre) _ (ap (λ (p : Phase). p .number) (c .before .before .before .before .of .ensures)) (c .before .before .if1 .left) _ (c .before .pair-at .ensures) _ (c .is-any-open .ensures)
+returns-2 c =
+    let e1 = c .before .before in
+    open-voting (e1 .before .before .before .before .before .pre) _ (ap (λ (p : Phase). p .number) (e1 .before .before .of .ensures)) (e1 .if1 .left)
+    _ (c .before .pair-at .ensures) _ (c .is-any-open .ensures)
 
 pub open-ok-spec : {M : Type 1} → statement M
 open-ok-spec = tie.close (tie.spec of-requires returns pair-at-requires is-any-open-requires returns-2)

@@ -17,10 +17,16 @@ mul-result c =
     omega (arith, s .pre .0 .words, voter-within (s .pre .0) (s .pre .1) (c .before .if1 .left) (c .entry .ensures))
 
 shared-slice-read-result : tie.Need-shared-slice-read-result
-shared-slice-read-result c = let s = c .before .before .before .before .before in voter-within (s .pre .0) (s .pre .1) (c .before .before .if1 .left) (c .before .entry .ensures)
+shared-slice-read-result c =
+    let e = c .before in
+    let s = e .before .before .before .before in
+    voter-within (s .pre .0) (s .pre .1) (e .before .if1 .left) (e .entry .ensures)
 
 returns-2 : tie.Need-returns-2
-returns-2 c = let s = c .before .before .before .before .before in voter-is (s .pre .0) (s .pre .1) (c .before .before .if1 .left) (c .before .entry .ensures)
+returns-2 c =
+    let e = c .before in
+    let s = e .before .before .before .before in
+    voter-is (s .pre .0) (s .pre .1) (e .before .if1 .left) (e .entry .ensures)
 
 pub voter-of-spec : {M : Type 1} → statement M
 voter-of-spec = tie.close (tie.spec returns entry-requires mul-result shared-slice-read-result returns-2)
