@@ -53,7 +53,8 @@ number-is {board} {index} {n} kept (suc k) s l t =
     let more = mainNumber-suc (before board n) k (omega (arith, length-history base board n)) t in
     rw (word, same) (sym more)
 
-pub number-small : {board index : List ℕ} {n : ℕ} → Kept board index n → (k : ℕ) → 1 ≤ k → k ≤ n → getD index (indexRow * (k - 1) + 3) 0 ≤ itemLimit
+pub number-small : {board index : List ℕ} {n : ℕ} → Kept board index n → (k : ℕ) → 1 ≤ k → k ≤ n
+    → getD index (indexRow * (k - 1) + 3) 0 ≤ itemLimit
 number-small {board} {index} {n} kept k s l =
     let h = before board n in
     rw (row-mains kept k s l)
@@ -173,7 +174,8 @@ module _ {board index ballots : List ℕ} {s : State} {c : Known} (p : Passing b
     after-cast cast voter ballot weight next b w e =
         let put = holds-put l r (without v (counted (before board (s .items)))) (vote p) kept row-fits in
         let same : next ≡ sets l (ballotRow * r) (vote p .ballot ∷ vote p .voter ∷ vote p .weight ∷ []) = e ∙ rw (b, voter, w) in
-        let counted-is : counted (before board (s .items + 1)) ≡ without v (counted (before board (s .items))) ++ (vote p ∷ []) = counted-more p cast ∙ rw (← voter) in (
+        let counted-is : counted (before board (s .items + 1)) ≡ without v (counted (before board (s .items))) ++ (vote p ∷ []) =
+        counted-more p cast ∙ rw (← voter) in (
           record { rows = rw (counted-is, same) (put .rows); room = rw (same, length-sets l (ballotRow * r) _) (omega (arith, t .room)) },
           rw counted-is (put .number),
         )

@@ -35,7 +35,9 @@ returns-3 : tie.Need-returns-3
 returns-3 c = rw (c .before .enum-told .given .1) (c .is-zero .ensures ∙ parent-zeros (c .before .before .before .before .before .pre .0))
 
 returns-4 : tie.Need-returns-4
-returns-4 c = rw (c .before .before .before .before .enum-told2 .given .1) (parent-config (c .before .before .before .before .before .before .before .before .pre .0) (search needs))
+returns-4 c =
+    rw (c .before .before .before .before .enum-told2 .given .1)
+    (parent-config (c .before .before .before .before .before .before .before .before .pre .0) (search needs))
 
 returns-5 : tie.Need-returns-5
 returns-5 c =

@@ -27,7 +27,9 @@ entry-requires c κs =
     (a .kept, (omega arith, l))
 
 same-words-requires-2 : tie.Need-same-words-requires-2
-same-words-requires-2 c κs = let p = at-places (c .before .before .before .before .before .before .before .pre) in (omega arith, known-within (c .entry .ensures) .address)
+same-words-requires-2 c κs =
+    let p = at-places (c .before .before .before .before .before .before .before .pre) in
+    (omega arith, known-within (c .entry .ensures) .address)
 
 returns-3 : tie.Need-returns-3
 returns-3 c =

@@ -25,9 +25,9 @@ few c = rows-few (c .pre .0) (c .pre .1) (c .pre .2)
 
 -- the row leads to an item
 found : (c : tie.After-main-entry Inv-loop μ-loop)
-    → c .main-entry .result
-    ≡ mainEntry (before (c .before .before .before .before .before .before .before .before .before .before .args .board .now) (c .before .before .before .before .before .before .before .before .before .before .args .s .items))
-    (getD (c .before .before .before .before .before .before .before .before .before .before .args .ballots .now) (ballotRow * c .before .before .before .before .before .loop .k) 0)
+    → let a = c .before .before .before .before .before .before .before .before .before .before .args in
+    let k = c .before .before .before .before .before .loop .k in
+    c .main-entry .result ≡ mainEntry (before (a .board .now) (a .s .items)) (getD (a .ballots .now) (ballotRow * k) 0)
 found c = rw (c .before .wide .ensures) at (c .main-entry .ensures)
 
 new-requires : tie.Need-new-requires Inv-loop μ-loop
