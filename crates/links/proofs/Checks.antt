@@ -12,7 +12,7 @@ use borrow.Author.Tests.{eq-eqb, ne-eqb, eqb-false, le-leb}
 use Rattle.model.specs.Lists.{if_then_else_, part}
 use Rattle.model.specs.Words.{codeOf, countOf, pair, sameWords}
 use Rattle.model.specs.Item as model
-use Rattle.model.specs.Item.{itemAt, itemLength, hashedLength, code, isMain, time}
+use Rattle.model.specs.Item.{itemAt, hashedLength, code, isMain, time}
 use Rattle.model.specs.Types.{zeros, latestConfig, ofType, Listed}
 use Rattle.model.specs.Links.{addressOk, previousOk, parentOk, timeOk}
 use Rattle.model.specs.History.{Entry, entry, itemNo}
@@ -25,37 +25,33 @@ use Rattle.format.specs.Layout.{itemOf}
 use Rattle.format.specs.declared.item.Item.{Item}
 use Rattle.format.specs.declared.table.Row.{Row}
 use Rattle.format.specs.declared.table.ParentRule.the-variants.{OfType}
-use Rattle.format.proofs.Places.{time-is, address-is, hashed-is, signature-behind}
+use Rattle.format.proofs.Places.{count-is, time-is, address-is, hashed-is, signature-behind}
 use Rattle.index.specs.declared.Known.{Known}
 use Rattle.index.specs.Kept.{before, itemAfter}
 use Rattle.index.specs.Known.{IsKnown}
-use Rattle.index.proofs.Reading.{known-item, known-code, known-address}
+use Rattle.index.proofs.Reading.{parts-within, known-item, known-code, known-address}
 use Rattle.state.specs.declared.State.{State}
 use Rattle.state.specs.Stands.{AtItem, IsRow}
 use Rattle.state.proofs.At.{at-kind, at-code, at-parent, at-parent-words, at-previous-words, at-time, at-listed, parent-in-range, last-in-range, last-item, end-none, end-last}
 
--- ---- places of an item that the code knows
+-- ---- 7, the address
 
-pub record Places (it : Item) : Type 0 where
-  pub time : it .place + 17 ≤ it .time
-  pub signature : it .signature ≡ it .time + 2
-  pub address : it .address ≡ it .signature + 16
-  pub end : it .end ≡ it .address + 8
-  pub short : it .time ≤ it .place + 17 + 65535
+-- the hashed words are few, "the first n + 19 words", and they and the address lie within the board, which has so many words
+pub record HashedIn (it : Item) (words : ℕ) : Type 0 where
+  pub start : it .place ≤ it .signature
+  pub few : it .signature ≤ it .place + 65535 + 19
+  pub end : it .signature ≤ words
+  pub address : it .address + 8 ≤ words
 
-places-at : (board : List ℕ) (p : ℕ) → Places (itemOf board p)
-unfolding itemOf itemLength countOf
-places-at board p =
-    let small = mod-lt (getD board p 0) {m = 65536} (lit< tt) in
-    record { time = omega arith; signature = omega arith; address = omega arith; end = omega arith; short = omega arith }
-
-pub places : (board : List ℕ) (p : ℕ) {it : Item} → it ≡ itemOf board p → Places it
-places board p e = rw e (places-at board p)
-
-pub known-places : {board : List ℕ} {e : Entry} {r : Known} → IsKnown board e r → Places (r .item)
-known-places {board} {e} k = places board (e .place) (known-item k)
-
--- ---- 7
+pub hashed-in : (board : List ℕ) {it : Item} → it ≡ itemOf board (it .place) → it .end ≤ length board → HashedIn it (length board)
+unfolding hashedLength countOf
+hashed-in board {it} e l =
+    let signature : it .signature ≡ itemOf board (it .place) .signature = ap (λ (x : Item). x .signature) e in
+    let behind = signature-behind board (it .place) in
+    let count = count-is board (it .place) in
+    let small = mod-lt (getD board (it .place) 0) {m = 65536} (lit< tt) in
+    let inside = parts-within (it .place) e l in
+    record { start = omega arith; few = omega arith; end = omega arith; address = inside .address }
 
 pub address-same : (board : List ℕ) (it : Item) (digest : List ℕ) → it ≡ itemOf board (it .place) → it .end ≤ length board → length digest ≡ 8
     → digest ≡ sha256Words (take (it .signature - it .place) (drop (it .place) board))
@@ -77,7 +73,7 @@ module _ {board index : List ℕ} {s : State} {c : Known} (a : AtItem board inde
   main-is : (b : Bool) → eqb (c .item .head .kind) 1 ≡ b → isMain i ≡ b
   main-is b q = ap (λ (k : ℕ). eqb k 1) (sym (at-kind a)) ∙ q
 
-  -- ---- 8
+  -- ---- 8, the previous item
 
   abbrev previous : List ℕ
   previous = part (c .item .previous) 8 board
@@ -95,7 +91,7 @@ module _ {board index : List ℕ} {s : State} {c : Known} (a : AtItem board inde
   unfolding previousOk if_then_else_
   previous-main m n e k = rw (at-previous-words a, main-is true (eq-eqb _ _ m), end-last (a .stands) n, known-address k)
 
-  -- ---- 9
+  -- ---- 9, the parent
 
   pub parent-zeros : sameWords (part (c .item .parent) 8 board) (replicate 8 0) ≡ parentOk base (before board (s .items)) zeros i
   unfolding parentOk
@@ -127,7 +123,7 @@ module _ {board index : List ℕ} {s : State} {c : Known} (a : AtItem board inde
       let other : eqb (codeOf w) 1 ≡ false = sym (genesis-law l) ∙ rw q in
       parent-in-range a (λ z. eqb-false (codeOf w) 1 other (rw (a .stands .place) (sym (at-code a) ∙ z)))
 
-  -- ---- 10
+  -- ---- 10, the time
 
   abbrev earlier : ℕ
   earlier = if eqb (c .item .head .kind) 1 then s .last else c .parent

@@ -10,7 +10,7 @@ use lib.Seq.{sets, length-sets, length-take-le, take-suc}
 use lib.Dec.{T, eqb, eqb→eq}
 use borrow.Author.Tests.{ne-eqb, le-leb}
 use Rattle.model.specs.Lists.{count}
-use Rattle.model.specs.Item.{itemLength, code, isMain, word}
+use Rattle.model.specs.Item.{code, isMain, word}
 use Rattle.model.specs.Types.{inSession}
 use Rattle.model.specs.History.{History, Entry, entry, itemNo, absent, main, mainNumber, typed, placeOf, history, entryOf, parentNumber, sessionNumber}
 use Rattle.model.specs.Counted.{Vote, voteOf, counted, without}
@@ -23,8 +23,6 @@ use Rattle.model.proofs.Growth.{counted-other, counted-cast}
 use Rattle.model.proofs.Unchecked.{length-history}
 use Rattle.model.proofs.Votes.{counted-few}
 use Rattle.format.specs.Base.{base}
-use Rattle.format.specs.Layout.{itemOf}
-use Rattle.format.specs.declared.item.Item.{Item}
 use Rattle.index.specs.declared.Known.{Known}
 use Rattle.index.specs.Kept.{before, itemAfter, Kept}
 use Rattle.index.specs.Known.{IsKnown, Passing}
@@ -55,22 +53,12 @@ number-is {board} {index} {n} kept (suc k) s l t =
     let more = mainNumber-suc (before board n) k (omega (arith, length-history base board n)) t in
     rw (word, same) (sym more)
 
-pub number-small : {board index : List ℕ} {n : ℕ} → Kept board index n → (k : ℕ) → 1 ≤ k → k ≤ n → getD index (indexRow * (k - 1) + 3) 0 ≤ itemLimit
+pub number-small : {board index : List ℕ} {n : ℕ} → Kept board index n → (k : ℕ) → 1 ≤ k → k ≤ n
+    → getD index (indexRow * (k - 1) + 3) 0 ≤ itemLimit
 number-small {board} {index} {n} kept k s l =
     let h = before board n in
     rw (row-mains kept k s l)
     (omega (arith, count-take main h (k - 1), count-few main h, length-history base board n, kept .few))
-
--- ---- the content of an item that the code knows
-
-pub content-in : {board : List ℕ} {e : Entry} {r : Known} → IsKnown board e r → r .item .content + r .item .head .count + 42 ≤ length board
-unfolding itemOf itemLength
-content-in {board} {e} {r} k =
-    let at = known-item k in
-    let content = ap (λ (i : Item). i .content) at in
-    let count = ap (λ (i : Item). i .head .count) at in
-    let end = ap (λ (i : Item). i .end) at in
-    omega (arith, k .within)
 
 -- ---- one more item
 
@@ -186,7 +174,8 @@ module _ {board index ballots : List ℕ} {s : State} {c : Known} (p : Passing b
     after-cast cast voter ballot weight next b w e =
         let put = holds-put l r (without v (counted (before board (s .items)))) (vote p) kept row-fits in
         let same : next ≡ sets l (ballotRow * r) (vote p .ballot ∷ vote p .voter ∷ vote p .weight ∷ []) = e ∙ rw (b, voter, w) in
-        let counted-is : counted (before board (s .items + 1)) ≡ without v (counted (before board (s .items))) ++ (vote p ∷ []) = counted-more p cast ∙ rw (← voter) in (
+        let counted-is : counted (before board (s .items + 1)) ≡ without v (counted (before board (s .items))) ++ (vote p ∷ []) =
+        counted-more p cast ∙ rw (← voter) in (
           record { rows = rw (counted-is, same) (put .rows); room = rw (same, length-sets l (ballotRow * r) _) (omega (arith, t .room)) },
           rw counted-is (put .number),
         )

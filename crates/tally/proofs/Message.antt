@@ -15,7 +15,7 @@ use Rattle.model.specs.Format.{Format}
 use Rattle.model.specs.History.{History, Entry, absent, entry, itemNo, main, mainNumber, typed}
 use Rattle.model.specs.Counted.{Vote, voteOf, votesIn, sameVoter, counted, contents}
 use Rattle.model.specs.Sound.{Passed}
-use Rattle.model.specs.Audit.{ballotRow}
+use Rattle.model.specs.Audit.{itemLimit, ballotRow}
 use Rattle.model.proofs.Tests.{by-test, is-true}
 use Rattle.model.proofs.Lists.{Every, every-at, every-keep, every-latest}
 use Rattle.model.proofs.Entries.{Fine, orderly, each-fine, typed-main}
@@ -26,14 +26,16 @@ use Rattle.sha256.specs.declared.Hash.{Hash}
 use Rattle.sha256.specs.State.{Holds, Fed}
 use Rattle.format.specs.Base.{base}
 use Rattle.format.specs.Layout.{itemOf}
+use Rattle.format.specs.declared.item.Item.{Item}
 use Rattle.format.proofs.Places.{content-is}
 use Rattle.index.specs.declared.Known.{Known}
 use Rattle.index.specs.Kept.{before, Kept}
 use Rattle.index.specs.Known.{IsKnown}
-use Rattle.index.proofs.Reading.{known-item}
+use Rattle.index.proofs.Reading.{known-item, known-within}
 use Rattle.lookup.specs.Search.{mainFrom, mainEntry}
 use Rattle.state.specs.declared.State.{State}
 use Rattle.state.specs.Stands.{Stands}
+use Rattle.tally.specs.Rows.{HoldsRows}
 use Rattle.tally.specs.Tallied.{Tallied}
 use Rattle.tally.proofs.Table.{none, row-of}
 
@@ -103,26 +105,41 @@ unfolding contents
 contents-snoc [] x = append-nil (x .content)
 contents-snoc (y ∷ ys) x = rw (contents-snoc ys x, append-assoc)
 
--- the content of an item that the code knows, as a slice of the board
+-- ---- a content as a slice of the board
+
+-- it lies within the board, which has so many words, and is short
+pub record ContentIn (it : Item) (words : ℕ) : Type 0 where
+  pub start : it .content ≤ it .parent
+  pub end : it .parent ≤ words
+  pub short : it .parent ≤ it .content + 65535
+
 module _ {board : List ℕ} {e : Entry} {r : Known} (k : IsKnown board e r) where
-  pub content-ends : r .item .parent ≡ r .item .content + r .item .head .count
+  content-ends : r .item .parent ≡ r .item .content + r .item .head .count
   unfolding itemOf
   content-ends = rw (known-item k)
 
-  pub content-short : r .item .head .count ≤ 65535
+  content-short : r .item .head .count ≤ 65535
   unfolding itemOf countOf
   content-short = rw (known-item k) (omega (arith, mod-lt (getD board (e .place) 0) {m = 65536} (lit< tt)))
 
-  pub content-slice : take (r .item .parent - r .item .content) (drop (r .item .content) board) ≡ e .item .content
+  pub content-in : ContentIn (r .item) (length board)
+  content-in =
+      let ends = content-ends in
+      let short = content-short in
+      record { start = omega arith; end = omega (arith, known-within k .content); short = omega arith }
+
+  content-slice : take (r .item .parent - r .item .content) (drop (r .item .content) board) ≡ e .item .content
   unfolding part
   content-slice =
       let size : r .item .parent - r .item .content ≡ r .item .head .count = omega (arith, content-ends) in
       rw (size, known-item k) (content-is board (e .place)) ∙ ap (λ (i : model.Item). i .content) (sym (k .item))
 
+-- ---- the rows, one by one
+
 module _ {board index ballots : List ℕ} {s : State} (kept : Kept board index (s .items)) (stands : Stands board s)
     (t : Tallied board ballots (s .items)) where
-  pub votes-few : s .ballots ≤ s .items
-  votes-few = omega (arith, counted-few (before board (s .items)), length-history base board (s .items), stands .ballots)
+  pub rows-few : s .ballots ≤ itemLimit
+  rows-few = omega (arith, counted-few (before board (s .items)), length-history base board (s .items), stands .ballots, kept .few)
 
   pub message-all : (k : ℕ) → k ≡ s .ballots → take k (counted (before board (s .items))) ≡ counted (before board (s .items))
   message-all k e = take-all k (counted (before board (s .items))) (omega (arith, stands .ballots))
@@ -138,7 +155,9 @@ module _ {board index ballots : List ℕ} {s : State} (kept : Kept board index (
 
     number-is : getD ballots (ballotRow * k) 0 ≡ vote .ballot
     unfolding vote ballotRows
-    number-is = rw add-zero at (row-of ballots (s .ballots) (counted (before board (s .items))) (record { rows = t .rows; number = stands .ballots }) k 0 more (lit< tt))
+    number-is =
+        let held : HoldsRows ballots (s .ballots) (counted (before board (s .items))) = record { rows = t .rows; number = stands .ballots } in
+        rw add-zero at (row-of ballots (s .ballots) (counted (before board (s .items))) held k 0 more (lit< tt))
 
     module _ (item : ℕ) (found : item ≡ mainEntry (before board (s .items)) (getD ballots (ballotRow * k) 0)) where
       pub item-in : (1 ≤ item) × (item ≤ s .items)

@@ -111,11 +111,14 @@ module _ (voter n : ℕ) (xs : List Vote) (ballots : List ℕ) (kept k : ℕ) (l
   unfolding before rest ballotRows
   is-present = d .words ∙ rw (add-one k, drop-cons xs k none more)
 
-  kept-before : (b : Bool) → eqb (vote .voter) voter ≡ b → without voter (take (k + 1) xs) ≡ (if b then without voter (take k xs) else without voter (take k xs) ++ (vote ∷ []))
+  kept-before : (b : Bool) → eqb (vote .voter) voter ≡ b
+      → without voter (take (k + 1) xs) ≡ (if b then without voter (take k xs) else without voter (take k xs) ++ (vote ∷ []))
   unfolding keep if_then_else_
   kept-before b e = rw (add-one k, take-suc xs k none more, keep-append (λ x. not (eqb (x .voter) voter)) (λ x. x) (take k xs) (vote ∷ []), e) (ends b)
     where
-      ends : (b : Bool) → without voter (take k xs) ++ (if not b then vote ∷ [] else []) ≡ (if b then without voter (take k xs) else without voter (take k xs) ++ (vote ∷ []))
+      ends : (b : Bool)
+          → without voter (take k xs) ++ (if not b then vote ∷ [] else [])
+          ≡ (if b then without voter (take k xs) else without voter (take k xs) ++ (vote ∷ []))
       ends true = append-nil _
       ends false = refl
 
@@ -142,7 +145,8 @@ dropped-all voter n xs ballots kept rows e le room m d =
     let all : take rows xs ≡ xs = take-all rows xs (omega arith) in
     let none : drop rows xs ≡ [] = drop-of-length-le xs {i = rows} (omega arith) in
     let number : kept ≡ length (without voter xs) = rw all at (d .number) in
-    let free : ballotRow * rows - ballotRow * kept + (n - ballotRow * length xs) ≡ n - length (ballotRows (without voter xs)) = omega (arith, length-ballotRows (without voter xs)) in
+    let free : ballotRow * rows - ballotRow * kept + (n - ballotRow * length xs) ≡ n - length (ballotRows (without voter xs)) =
+    omega (arith, length-ballotRows (without voter xs)) in
     record {
       rows = rw (all, none) at (d .words) ∙ rw (replicate-append-replicate, free, e);
       number = number;

@@ -11,7 +11,7 @@ enum-told : tie.Need-enum-told
 enum-told c = search needs
 
 is-zero-requires : tie.Need-is-zero-requires
-is-zero-requires c κs = let a = c .before .before .before .before .pre .0 in let p = at-places a in omega arith
+is-zero-requires c κs = let p = at-places (c .before .before .before .before .pre .0) in omega arith
 
 enum-told-2 : tie.Need-enum-told-2
 enum-told-2 c = search needs
@@ -26,16 +26,24 @@ returns-2 : tie.Need-returns-2
 returns-2 c = rw (c .before .before .before .rule .given .1) (no-typed (c .before .before .before .before .before .before .before .pre .0) _ (c .if2 .taken))
 
 entry-requires : tie.Need-entry-requires
-entry-requires c κs = let a = c .before .before .before .before .before .before .before .pre in (a .0 .kept, (omega arith, typed-in (a .0) (c .before .before .before .rule .given .0 .0) (c .before .before .before .before .before .before .before .args .row) (a .1) (c .before .before .before .rule .given .1)))
+entry-requires c κs =
+    let a = c .before .before .before .before .before .before .before .pre in
+    let rule = c .before .before .before .rule .given in
+    (a .0 .kept, (omega arith, typed-in (a .0) (rule .0 .0) (c .before .before .before .before .before .before .before .args .row) (a .1) (rule .1)))
 
 returns-3 : tie.Need-returns-3
 returns-3 c = rw (c .before .enum-told .given .1) (c .is-zero .ensures ∙ parent-zeros (c .before .before .before .before .before .pre .0))
 
 returns-4 : tie.Need-returns-4
-returns-4 c = rw (c .before .before .before .before .enum-told2 .given .1) (parent-config (c .before .before .before .before .before .before .before .before .pre .0) (search needs))
+returns-4 c =
+    rw (c .before .before .before .before .enum-told2 .given .1)
+    (parent-config (c .before .before .before .before .before .before .before .before .pre .0) (search needs))
 
 returns-5 : tie.Need-returns-5
-returns-5 c = rw (c .before .before .before .before .before .rule .given .1) (parent-typed (c .before .before .before .before .before .before .before .before .before .pre .0) _ (search needs) (c .before .entry .result) (c .before .entry .ensures))
+returns-5 c =
+    let a = c .before .before .before .before .before .before .before .before .before .pre .0 in
+    let e = c .before .entry in
+    rw (c .before .before .before .before .before .rule .given .1) (parent-typed a _ (search needs) (e .result) (e .ensures))
 
 pub parent-ok-spec : {M : Type 1} → statement M
 parent-ok-spec =

@@ -2,10 +2,9 @@
 use mathlib.Core.Path.{_≡_, _∙_}
 use Prim.Native.Nat.{_≤_, _*_, _-_}
 use lib.ListN.{length, getD, take, drop, length-take, length-drop}
-use Rattle.model.specs.Audit.{ballotRow}
+use Rattle.model.specs.Audit.{itemLimit, ballotRow}
 use Rattle.lookup.specs.Search.{mainEntry}
-use Rattle.tally.proofs.Casts.{content-in}
-use Rattle.tally.proofs.Message.{content-ends, content-short, votes-few, item-in, message-more, message-all}
+use Rattle.tally.proofs.Message.{rows-few, content-in, item-in, message-more, message-all}
 use Rattle.model.specs.Counted.{counted, contents}
 use Rattle.sha256.specs.State.{Holds}
 use Rattle.index.specs.Kept.{before}
@@ -21,15 +20,15 @@ Inv-loop board index ballots s hash₀ k₀ hash k =
 abbrev μ-loop : tie.MeasureT-loop
 μ-loop board index ballots s hash₀ k₀ hash k = s .ballots - k
 
-found : (c : tie.After-main-entry Inv-loop μ-loop)
-    → c .main-entry .result
-    ≡ mainEntry (before (c .before .before .before .before .before .before .before .before .before .before .args .board .now) (c .before .before .before .before .before .before .before .before .before .before .args .s .items)) (getD (c .before .before .before .before .before .before .before .before .before .before .args .ballots .now) (ballotRow * c .before .before .before .before .before .loop .k) 0)
-found c = rw (c .before .wide .ensures) at (c .main-entry .ensures)
+few : (c : tie.Start Inv-loop μ-loop) → c .args .s .ballots ≤ itemLimit
+few c = rows-few (c .pre .0) (c .pre .1) (c .pre .2)
 
-inside : (c : tie.After-main-entry Inv-loop μ-loop) → (1 ≤ c .main-entry .result) × (c .main-entry .result ≤ c .before .before .before .before .before .before .before .before .before .before .args .s .items)
-inside c =
-    let p = c .before .before .before .before .before .before .before .before .before .before .pre in
-    item-in (p .0) (p .1) (p .2) (c .before .before .before .before .before .loop .k) (c .before .before .before .if1 .taken) (c .main-entry .result) (found c)
+-- the row leads to an item
+found : (c : tie.After-main-entry Inv-loop μ-loop)
+    → let a = c .before .before .before .before .before .before .before .before .before .before .args in
+    let k = c .before .before .before .before .before .loop .k in
+    c .main-entry .result ≡ mainEntry (before (a .board .now) (a .s .items)) (getD (a .ballots .now) (ballotRow * k) 0)
+found c = rw (c .before .wide .ensures) at (c .main-entry .ensures)
 
 new-requires : tie.Need-new-requires Inv-loop μ-loop
 new-requires c κs = search needs
@@ -39,13 +38,17 @@ unfolding contents
 loop-holds c = (search needs, omega (arith, c .new .ensures .counted), c .new .ensures)
 
 mul-wide : tie.Need-mul-wide Inv-loop μ-loop
-mul-wide c = let p = c .before .before .before .before .before .before .before .pre in let v = votes-few (p .0) (p .1) (p .2) in let f = p .0 .few in omega arith
+mul-wide c = let f = few (c .before .before .before .before .before .before .before) in omega arith
 
 mul-wide-2 : tie.Need-mul-wide-2 Inv-loop μ-loop
-mul-wide-2 c = let p = c .before .before .before .before .before .before .before .pre in let v = votes-few (p .0) (p .1) (p .2) in let f = p .0 .few in omega arith
+mul-wide-2 c = let f = few (c .before .before .before .before .before .before .before) in omega arith
 
 shared-slice-read-wide : tie.Need-shared-slice-read-wide Inv-loop μ-loop
-shared-slice-read-wide c = let p = c .before .before .before .before .before .before .before .before .pre in let v = votes-few (p .0) (p .1) (p .2) in let f = p .0 .few in let r = p .2 .room in omega arith
+shared-slice-read-wide c =
+    let start = c .before .before .before .before .before .before .before .before in
+    let f = few start in
+    let room = start .pre .2 .room in
+    omega arith
 
 wide-requires : tie.Need-wide-requires Inv-loop μ-loop
 wide-requires c κs = search needs
@@ -54,55 +57,66 @@ main-entry-requires : tie.Need-main-entry-requires Inv-loop μ-loop
 main-entry-requires c κs = search needs
 
 entry-requires : tie.Need-entry-requires Inv-loop μ-loop
-entry-requires c κs = (c .before .before .before .before .before .before .before .before .before .before .pre .0, (inside c .0, inside c .1))
+entry-requires c κs =
+    let p = c .before .before .before .before .before .before .before .before .before .before .pre in
+    let k = c .before .before .before .before .before .loop .k in
+    let inside = item-in (p .0) (p .1) (p .2) k (c .before .before .before .if1 .taken) (c .main-entry .result) (found c) in
+    (p .0, (inside .0, inside .1))
 
 mul-words : tie.Need-mul-words Inv-loop μ-loop
-mul-words c = let e = c .before .entry .ensures in let n = content-ends e in let i = content-in e in omega arith
+mul-words c = let w = content-in (c .before .entry .ensures) in omega arith
 
 sub-words : tie.Need-sub-words Inv-loop μ-loop
-sub-words c = let e = c .before .entry .ensures in let n = content-ends e in let i = content-in e in omega arith
+sub-words c = content-in (c .before .entry .ensures) .start
 
 part-words-start : tie.Need-part-words-start Inv-loop μ-loop
-part-words-start c = let e = c .before .entry .ensures in let n = content-ends e in let i = content-in e in omega arith
+part-words-start c = let w = content-in (c .before .entry .ensures) in omega arith
 
 part-words-end : tie.Need-part-words-end Inv-loop μ-loop
-part-words-end c = let e = c .before .entry .ensures in let n = content-ends e in let i = content-in e in omega arith
+part-words-end c = let w = content-in (c .before .entry .ensures) in omega arith
 
 words-requires : tie.Need-words-requires Inv-loop μ-loop
 words-requires c κs =
-    let e = c .before .before .entry .ensures in
-    let n = content-ends e in
-    let i = content-short e in
+    let w = content-in (c .before .before .entry .ensures) in
     let l = c .before .before .before .before .before .before .before .before .loop .inv in
-    let p = c .before .before .before .before .before .before .before .before .before .before .before .before .before .pre in let v = votes-few (p .0) (p .1) (p .2) in let f = p .0 .few in simp (length-take, length-drop) (omega arith)
+    let f = few (c .before .before .before .before .before .before .before .before .before .before .before .before .before) in
+    simp (length-take, length-drop) (omega arith)
 
 add-k : tie.Need-add-k Inv-loop μ-loop
-add-k c = let p = c .before .before .before .before .before .before .before .before .before .before .before .before .before .before .pre in let v = votes-few (p .0) (p .1) (p .2) in let f = p .0 .few in omega arith
+add-k c = let f = few (c .before .before .before .before .before .before .before .before .before .before .before .before .before .before) in omega arith
 
 loop-less : tie.Need-loop-less Inv-loop μ-loop
 loop-less c = search needs
 
 loop-again : tie.Need-loop-again Inv-loop μ-loop
 loop-again c =
+    let start = c .before .before .before .before .before .before .before .before .before .before .before .before .before .before in
+    let p = start .pre in
     let l = c .before .before .before .before .before .before .before .before .before .loop in
-    let p = c .before .before .before .before .before .before .before .before .before .before .before .before .before .before .pre in
+    let more = c .before .before .before .before .before .before .before .if1 .taken in
+    let item = c .before .before .before .before in
     let e = c .before .before .before .entry in
-    let n = content-ends (e .ensures) in
-    let i = content-short (e .ensures) in
-    let size : length (take (e .result .item .parent - e .result .item .content) (drop (e .result .item .content) (c .before .before .before .before .before .before .before .before .before .before .before .before .before .before .args .board .now))) ≤ 65535 = simp (length-take, length-drop) (omega arith) in (
+    let it = e .result .item in
+    let w = content-in (e .ensures) in
+    let size : length (take (it .parent - it .content) (drop (it .content) (start .args .board .now))) ≤ 65535 = simp (length-take, length-drop) (omega arith) in (
       omega arith,
       omega (arith, c .words .ensures .count, l .inv .1),
-      message-more (p .0) (p .1) (p .2) (l .k) (c .before .before .before .before .before .before .before .if1 .taken) (c .before .before .before .before .main-entry .result) (found (c .before .before .before .before)) (e .result) (e .ensures) (l .hash) (c .words .result) (c .words .ensures) (l .inv .2),
+      message-more (p .0) (p .1) (p .2) (l .k) more (item .main-entry .result) (found item) (e .result) (e .ensures) (l .hash) (c .words .result)
+          (c .words .ensures) (l .inv .2),
     )
 
 finish-requires : tie.Need-finish-requires Inv-loop μ-loop
-finish-requires c κs = let p = c .before .before .before .before .before .before .before .pre in let v = votes-few (p .0) (p .1) (p .2) in let f = p .0 .few in let l = c .before .before .loop .inv in omega arith
+finish-requires c κs =
+    let l = c .before .before .loop .inv in
+    let f = few (c .before .before .before .before .before .before .before) in
+    omega arith
 
 returns : tie.Need-returns Inv-loop μ-loop
 returns c =
     let l = c .before .before .before .loop in
-    let p = c .before .before .before .before .before .before .before .before .pre in
-    let end : l .k ≡ c .before .before .before .before .before .before .before .before .args .s .ballots = omega arith in
+    let start = c .before .before .before .before .before .before .before .before in
+    let p = start .pre in
+    let end : l .k ≡ start .args .s .ballots = omega arith in
     c .finish .ensures _ (l .inv .2) ∙ rw (message-all (p .0) (p .1) (p .2) (l .k) end)
 
 pub fingerprint-spec : {M : Type 1} → statement M

@@ -13,7 +13,9 @@ use Rattle.tally.proofs.total_weight.Statement.{statement}
 use Rattle.tally.proofs.total_weight.Tie as tie
 
 abbrev Inv-loop : tie.InvT-loop
-Inv-loop ballots rows sum₀ k₀ sum k = (k ≤ rows) × (sum ≤ 4294967295 * k) × ((xs : List Vote) → HoldsRows ballots rows xs → sum + totalWeight (drop k xs) ≡ totalWeight xs)
+Inv-loop ballots rows sum₀ k₀ sum k =
+    (k ≤ rows) × (sum ≤ 4294967295 * k)
+    × ((xs : List Vote) → HoldsRows ballots rows xs → sum + totalWeight (drop k xs) ≡ totalWeight xs)
 
 abbrev μ-loop : tie.MeasureT-loop
 μ-loop ballots rows sum₀ k₀ sum k = rows - k

@@ -12,7 +12,8 @@ use Rattle.tally.proofs.rows.without_voter.Statement.{statement}
 use Rattle.tally.proofs.rows.without_voter.Tie as tie
 
 abbrev Inv-loop : tie.InvT-loop
-Inv-loop ballots₀ rows voter kept₀ k₀ ballots kept k = (kept ≤ k) × (k ≤ rows) × (length ballots ≡ length ballots₀)
+Inv-loop ballots₀ rows voter kept₀ k₀ ballots kept k =
+    (kept ≤ k) × (k ≤ rows) × (length ballots ≡ length ballots₀)
     × ((xs : List Vote) → HoldsRows ballots₀ rows xs → Dropped voter (length ballots₀) xs ballots kept k)
 
 abbrev μ-loop : tie.MeasureT-loop
@@ -39,7 +40,8 @@ loop-again c =
       rw (called .ensures .1) few,
       search needs,
       called .kept .0 ∙ l .inv .2,
-      λ xs t. rw (called .ensures .0, called .ensures .1) (dropped-more (a .voter) (length (a .ballots .now)) xs (l .ballots) (l .kept) (l .k) (l .inv .0) (omega (arith, t .number)) (l .inv .3 xs t)),
+      λ xs t. rw (called .ensures .0, called .ensures .1)
+          (dropped-more (a .voter) (length (a .ballots .now)) xs (l .ballots) (l .kept) (l .k) (l .inv .0) (omega (arith, t .number)) (l .inv .3 xs t)),
     )
 
 same-length : tie.Need-same-length Inv-loop μ-loop
@@ -51,7 +53,8 @@ returns c xs t =
     let a = c .before .before .before .args in
     let end : l .k ≡ a .rows = omega arith in
     let dropped = rw end at (l .inv .3 xs t) in
-    dropped-all (a .voter) (length (a .ballots .now)) xs (l .ballots) (l .kept) (a .rows) (l .inv .2) (omega arith) (c .before .before .before .pre) (omega (arith, t .number)) dropped
+    let room = c .before .before .before .pre in
+    dropped-all (a .voter) (length (a .ballots .now)) xs (l .ballots) (l .kept) (a .rows) (l .inv .2) (omega arith) room (omega (arith, t .number)) dropped
 
 pub without-voter-spec : {M : Type 1} → statement M
 without-voter-spec =

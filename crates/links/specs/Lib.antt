@@ -1,1 +1,0 @@
--- The contracts cite the model's definitions.
