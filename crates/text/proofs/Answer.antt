@@ -1,8 +1,8 @@
 -- Laws of the text of an answer: from its lines, and that it is the text of an outcome whose report and ballot table it is made of.
 -- Assumes nothing.
-use Prim.Native.Nat.{ℕ, zero, suc, _*_, _≤_}
+use Prim.Native.Nat.{ℕ, zero, suc, _*_}
 use native.Mathlib.Omega.{arith}
-use mathlib.Core.Path.{_≡_, refl, sym, ap, _∙_}
+use mathlib.Core.Path.{_≡_, refl, _∙_}
 use mathlib.Core.List.{List, _++_}
 use lib.ListN.{length, take, replicate}
 use lib.Seq.{take-at}
@@ -11,7 +11,7 @@ use Rattle.model.specs.Lists.{if_then_else_}
 use Rattle.model.specs.Format.{Format}
 use Rattle.model.specs.Counted.{counted}
 use Rattle.model.specs.Audit.{Outcome, unread, refused, accepted, ballotRow}
-use Rattle.model.specs.Report.{Report, reportOf, ballotRows, filled, tableAfter, ballotsAfter}
+use Rattle.model.specs.Report.{reportOf, ballotRows, filled, tableAfter, ballotsAfter}
 use Rattle.model.specs.Program.{refusedLine, acceptedLine, rowLines, textOf, sized}
 use Rattle.model.proofs.Report.{Numbered}
 use Rattle.model.proofs.Tables.{length-ballotRows}

@@ -1,7 +1,7 @@
 -- Laws of the lines: put part by part, and how long they are at most. Assumes nothing.
-use Prim.Native.Nat.{ℕ, _+_, _^_, _≤_, _<_}
+use Prim.Native.Nat.{ℕ, _^_, _≤_, _<_}
 use native.Mathlib.Omega.{arith}
-use mathlib.Core.Path.{_≡_, refl, sym, ap, _∙_}
+use mathlib.Core.Path.{_≡_}
 use mathlib.Core.List.{List, [], _∷_, _++_, append-nil, append-assoc}
 use lib.ListN.{length, length-append}
 use Rattle.model.specs.Program.{newline, space, refusedText, atText, acceptedText, decimal, spaced, refusedLine, acceptedLine, rowLines}

@@ -1,13 +1,12 @@
 -- Laws of the ballot rows' lines: one row more. Assumes nothing.
 use Prim.Native.Nat.{ℕ, zero, suc, _+_, _*_, _≤_, _<_}
-use native.Mathlib.Numerals.{add-one}
 use native.Mathlib.Omega.{arith}
 use mathlib.Core.Path.{_≡_, refl, sym, ap, _∙_}
 use mathlib.Core.List.{List, [], _∷_, _++_, append-assoc}
 use lib.ListN.{length, take, drop, getD, length-take}
 use lib.Seq.{take-add, drop-cons}
 use Rattle.model.specs.Audit.{ballotRow}
-use Rattle.model.specs.Program.{newline, decimal, spaced, line, rowLines}
+use Rattle.model.specs.Program.{decimal, spaced, line, rowLines}
 use Rattle.text.specs.Put.{Put}
 use Rattle.text.proofs.Placed.{put-then}
 

@@ -5,7 +5,7 @@ ghost use Prim.Native.Nat.{_+_, _*_, _≤_};
 ghost use lib.ListN.{length, drop};
 ghost use Rattle.model.specs.Audit.{ballotRow};
 ghost use Rattle.text.specs.Answer.{textFrom};
-use line::Line;
+use line::LINE;
 
 pub mod line;
 pub mod put;
@@ -21,7 +21,7 @@ pub fn text_of(
     weight: u64,
     table: &[u32],
 ) -> usize
-    requires room { do ⌜ (← ⟦Line::LENGTH⟧) * (1 + ballots) ≤ length (now out) ⌝ }
+    requires room { do ⌜ (← ⟦LINE⟧) * (1 + ballots) ≤ length (now out) ⌝ }
     requires rows { ⌜ ballotRow * ballots ≤ length (now table) ⌝ }
     ensures end { λ r. ⌜ r ≡ length (textFrom number items mains ballots weight (now (table .entry))) ⌝ }
     ensures bytes { λ r. ⌜ now (out .exit) ≡ textFrom number items mains ballots weight (now (table .entry)) ++ drop r (now (out .entry)) ⌝ }

@@ -15,8 +15,10 @@ same-length c = search needs
 
 returns : tie.Need-returns
 returns c =
-    let s = c .before .before .before .before .before .before .before .args in
-    put-start (put-refusal (s .number) (s .items) (s .mains) (s .ballots) (s .weight) (s .table .now) (c .before .before .before .before .if1 .taken) (c .before .before .refused-line .ensures))
+    let line = c .before .before in
+    let test = line .before .before in
+    let x = test .before .before .before .args in
+    put-start (put-refusal (x .number) (x .items) (x .mains) (x .ballots) (x .weight) (x .table .now) (test .if1 .taken) (line .refused-line .ensures))
 
 accepted-line-requires : tie.Need-accepted-line-requires
 accepted-line-requires c κs = search needs
@@ -36,8 +38,12 @@ same-length-2 c = search needs
 
 returns-2 : tie.Need-returns-2
 returns-2 c =
-    let s = c .before .before .before .before .before .before .before .before .before .before .before .before .args in
-    put-start (put-acceptance (s .number) (s .items) (s .mains) (s .ballots) (s .weight) (s .table .now) (c .before .before .before .before .before .before .before .before .before .if1 .left) (c .before .before .before .before .before .before .before .accepted-line .ensures) (rw (c .before .before .before .wide .ensures) at (c .before .before .row-lines .ensures)))
+    let rows = c .before .before in
+    let line = rows .before .before .before .before .before in
+    let test = line .before .before in
+    let x = test .before .before .before .args in
+    put-start (put-acceptance (x .number) (x .items) (x .mains) (x .ballots) (x .weight) (x .table .now)
+    (test .if1 .left) (line .accepted-line .ensures) (rw (rows .before .wide .ensures) at (rows .row-lines .ensures)))
 
 pub text-of-spec : {M : Type 1} → statement M
 text-of-spec =

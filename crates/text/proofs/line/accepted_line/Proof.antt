@@ -45,9 +45,15 @@ same-length c = search needs
 
 returns : tie.Need-returns
 returns c =
-    let s = c .before .before .before .before .before .before .before .before .before .before .before .before .before .before .before .before .before .before .before .before .before .before .before .before .before .before .args in
-    put-accepted (s .items) (s .mains) (s .ballots) (s .weight)
-    (c .before .before .before .before .before .before .before .before .before .before .before .before .before .before .before .before .before .before .before .before .before .before .bytes .ensures) (c .before .before .before .before .before .before .before .before .before .before .before .before .before .before .before .before .before .before .spaced .ensures) (c .before .before .before .before .before .before .before .before .before .before .before .before .before .before .spaced2 .ensures) (c .before .before .before .before .before .before .before .before .before .before .spaced3 .ensures) (c .before .before .before .before .before .before .spaced4 .ensures) (c .before .before .byte .ensures)
+    let p₅ = c .before .before in
+    let p₄ = p₅ .before .before .before .before in
+    let p₃ = p₄ .before .before .before .before in
+    let p₂ = p₃ .before .before .before .before in
+    let p₁ = p₂ .before .before .before .before in
+    let p = p₁ .before .before .before .before in
+    let x = p .before .before .before .before .args in
+    put-accepted (x .items) (x .mains) (x .ballots) (x .weight)
+    (p .bytes .ensures) (p₁ .spaced .ensures) (p₂ .spaced2 .ensures) (p₃ .spaced3 .ensures) (p₄ .spaced4 .ensures) (p₅ .byte .ensures)
 
 pub accepted-line-spec : {M : Type 1} → statement M
 accepted-line-spec =

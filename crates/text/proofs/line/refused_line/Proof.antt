@@ -40,8 +40,13 @@ same-length c = search needs
 
 returns : tie.Need-returns
 returns c =
-    let s = c .before .before .before .before .before .before .before .before .before .before .before .before .before .before .before .before .before .before .before .before .before .before .before .args in
-    put-refused (s .number) (s .items) (c .before .before .before .before .before .before .before .before .before .before .before .before .before .before .before .before .before .before .before .bytes .ensures) (c .before .before .before .before .before .before .before .before .before .before .before .before .before .before .before .spaced .ensures) (c .before .before .before .before .before .before .before .before .before .before .bytes2 .ensures) (c .before .before .before .before .before .before .spaced2 .ensures) (c .before .before .byte .ensures)
+    let p₄ = c .before .before in
+    let p₃ = p₄ .before .before .before .before in
+    let p₂ = p₃ .before .before .before .before in
+    let p₁ = p₂ .before .before .before .before .before in
+    let p = p₁ .before .before .before .before in
+    let x = p .before .before .before .before .args in
+    put-refused (x .number) (x .items) (p .bytes .ensures) (p₁ .spaced .ensures) (p₂ .bytes2 .ensures) (p₃ .spaced2 .ensures) (p₄ .byte .ensures)
 
 pub refused-line-spec : {M : Type 1} → statement M
 refused-line-spec =

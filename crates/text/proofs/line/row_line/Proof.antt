@@ -35,8 +35,12 @@ same-length c = search needs
 
 returns : tie.Need-returns
 returns c =
-    let s = c .before .before .before .before .before .before .before .before .before .before .before .before .before .before .before .before .before .args in
-    put-row (s .ballot) (s .voter) (s .weight) (c .before .before .before .before .before .before .before .before .before .before .before .before .before .before .decimal .ensures) (c .before .before .before .before .before .before .before .before .before .before .spaced .ensures) (c .before .before .before .before .before .before .spaced2 .ensures) (c .before .before .byte .ensures)
+    let p₃ = c .before .before in
+    let p₂ = p₃ .before .before .before .before in
+    let p₁ = p₂ .before .before .before .before in
+    let p = p₁ .before .before .before .before in
+    let x = p .before .before .before .args in
+    put-row (x .ballot) (x .voter) (x .weight) (p .decimal .ensures) (p₁ .spaced .ensures) (p₂ .spaced2 .ensures) (p₃ .byte .ensures)
 
 pub row-line-spec : {M : Type 1} → statement M
 row-line-spec =

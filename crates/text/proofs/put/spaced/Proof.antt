@@ -15,7 +15,10 @@ same-length : tie.Need-same-length
 same-length c = search needs
 
 returns : tie.Need-returns
-returns c = put-spaced (c .before .before .before .before .before .before .before .before .before .args .n) (c .before .before .before .before .before .before .byte .ensures) (c .before .before .decimal .ensures)
+returns c =
+    let digits = c .before .before in
+    let space = digits .before .before .before .before in
+    put-spaced (space .before .before .before .args .n) (space .byte .ensures) (digits .decimal .ensures)
 
 pub spaced-spec : {M : Type 1} → statement M
 spaced-spec = tie.close (tie.spec byte-requires decimal-requires same-length returns)
