@@ -7,41 +7,35 @@ use native.Mathlib.Nat.{suc-add}
 use native.Mathlib.Omega.{arith}
 use lib.ListN.{length, take, drop, getD, set, length-append, length-take, length-drop}
 use lib.Seq.{sets, sets-eq, take-all, take-suc, take-at, drop-at, drop-drop}
-use Rattle.words.specs.Bytes.{wordOf, wordAt, toWords, toBytes}
+use Rattle.model.specs.Program.{fromBytes}
+use Rattle.model.proofs.Program.{length-from-bytes}
+use Rattle.words.specs.Bytes.{wordOf, wordAt, toBytes}
 use Rattle.words.proofs.Runs.{write-more}
 
-pub length-toWords : (bs : List ℕ) → length (toWords bs) ≡ length bs / 4
-unfolding toWords
-length-toWords [] = refl
-length-toWords (a ∷ []) = refl
-length-toWords (a ∷ b ∷ []) = refl
-length-toWords (a ∷ b ∷ c ∷ []) = refl
-length-toWords (a ∷ b ∷ c ∷ d ∷ bs) = omega (arith, length-toWords bs)
-
 -- word i is that of the four bytes at 4 * i
-pub getD-toWords : (bs : List ℕ) (i p : ℕ) → p ≡ i * 4 → i < length bs / 4 → getD (toWords bs) i 0 ≡ wordAt bs p
-unfolding toWords
-getD-toWords [] i p e h = absurd (omega arith)
-getD-toWords (a ∷ []) i p e h = absurd (omega arith)
-getD-toWords (a ∷ b ∷ []) i p e h = absurd (omega arith)
-getD-toWords (a ∷ b ∷ c ∷ []) i p e h = absurd (omega arith)
-getD-toWords (a ∷ b ∷ c ∷ d ∷ bs) zero zero e h = refl
-getD-toWords (a ∷ b ∷ c ∷ d ∷ bs) zero (suc p) e h = absurd (omega arith)
-getD-toWords (a ∷ b ∷ c ∷ d ∷ bs) (suc i) (suc (suc (suc (suc p)))) e h = simp suc-add (getD-toWords bs i p (omega arith) (omega arith))
-getD-toWords (a ∷ b ∷ c ∷ d ∷ bs) (suc i) zero e h = absurd (omega arith)
-getD-toWords (a ∷ b ∷ c ∷ d ∷ bs) (suc i) (suc zero) e h = absurd (omega arith)
-getD-toWords (a ∷ b ∷ c ∷ d ∷ bs) (suc i) (suc (suc zero)) e h = absurd (omega arith)
-getD-toWords (a ∷ b ∷ c ∷ d ∷ bs) (suc i) (suc (suc (suc zero))) e h = absurd (omega arith)
+pub getD-fromBytes : (bs : List ℕ) (i p : ℕ) → p ≡ i * 4 → i < length bs / 4 → getD (fromBytes bs) i 0 ≡ wordAt bs p
+unfolding fromBytes
+getD-fromBytes [] i p e h = absurd (omega arith)
+getD-fromBytes (a ∷ []) i p e h = absurd (omega arith)
+getD-fromBytes (a ∷ b ∷ []) i p e h = absurd (omega arith)
+getD-fromBytes (a ∷ b ∷ c ∷ []) i p e h = absurd (omega arith)
+getD-fromBytes (a ∷ b ∷ c ∷ d ∷ bs) zero zero e h = refl
+getD-fromBytes (a ∷ b ∷ c ∷ d ∷ bs) zero (suc p) e h = absurd (omega arith)
+getD-fromBytes (a ∷ b ∷ c ∷ d ∷ bs) (suc i) (suc (suc (suc (suc p)))) e h = simp suc-add (getD-fromBytes bs i p (omega arith) (omega arith))
+getD-fromBytes (a ∷ b ∷ c ∷ d ∷ bs) (suc i) zero e h = absurd (omega arith)
+getD-fromBytes (a ∷ b ∷ c ∷ d ∷ bs) (suc i) (suc zero) e h = absurd (omega arith)
+getD-fromBytes (a ∷ b ∷ c ∷ d ∷ bs) (suc i) (suc (suc zero)) e h = absurd (omega arith)
+getD-fromBytes (a ∷ b ∷ c ∷ d ∷ bs) (suc i) (suc (suc (suc zero))) e h = absurd (omega arith)
 
 -- a word more of those that the bytes hold, and all of them
 module _ (bs d : List ℕ) (i : ℕ) where
-  pub put-more : i < length bs / 4 → i < length d → set (take i (toWords bs) ++ drop i d) i (wordAt bs (i * 4)) ≡ take (i + 1) (toWords bs) ++ drop (i + 1) d
+  pub put-more : i < length bs / 4 → i < length d → set (take i (fromBytes bs) ++ drop i d) i (wordAt bs (i * 4)) ≡ take (i + 1) (fromBytes bs) ++ drop (i + 1) d
   put-more hb hd =
-      rw (← getD-toWords bs i (i * 4) refl hb)
-      (write-more (toWords bs) d i (omega (arith, length-toWords bs)) hd)
+      rw (← getD-fromBytes bs i (i * 4) refl hb)
+      (write-more (fromBytes bs) d i (omega (arith, length-from-bytes bs)) hd)
 
-  pub put-all : i ≡ length bs / 4 → take i (toWords bs) ++ drop i d ≡ toWords bs ++ drop (length bs / 4) d
-  put-all e = rw (take-all i (toWords bs) (omega (arith, length-toWords bs)), e)
+  pub put-all : i ≡ length bs / 4 → take i (fromBytes bs) ++ drop i d ≡ fromBytes bs ++ drop (length bs / 4) d
+  put-all e = rw (take-all i (fromBytes bs) (omega (arith, length-from-bytes bs)), e)
 
 pub length-toBytes : (ws : List ℕ) → length (toBytes ws) ≡ 4 * length ws
 unfolding toBytes
@@ -64,10 +58,10 @@ wordOf-bytes w h =
     (omega arith) (omega arith) (omega arith) (omega arith)
 
 -- words written and read again are the same
-pub toWords-toBytes : (ws : List ℕ) → ((i : ℕ) → i < length ws → getD ws i 0 < 2 ^ 32) → toWords (toBytes ws) ≡ ws
-unfolding toWords toBytes
-toWords-toBytes [] h = refl
-toWords-toBytes (w ∷ ws) h = rw (wordOf-bytes w (h 0 (omega arith)), toWords-toBytes ws (λ i l. h (suc i) (omega arith)))
+pub fromBytes-toBytes : (ws : List ℕ) → ((i : ℕ) → i < length ws → getD ws i 0 < 2 ^ 32) → fromBytes (toBytes ws) ≡ ws
+unfolding fromBytes toBytes
+fromBytes-toBytes [] h = refl
+fromBytes-toBytes (w ∷ ws) h = rw (wordOf-bytes w (h 0 (omega arith)), fromBytes-toBytes ws (λ i l. h (suc i) (omega arith)))
 
 -- values stored behind a list
 sets-behind : (a d vs : List ℕ) (n : ℕ) → length a ≡ n → length vs ≤ length d → sets (a ++ d) n vs ≡ a ++ vs ++ drop (length vs) d

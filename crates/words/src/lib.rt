@@ -6,7 +6,8 @@ ghost use lib.ListN.{length, drop, replicate};
 ghost use lib.Seq.{sets};
 ghost use Rattle.model.specs.Lists.{part};
 ghost use Rattle.model.specs.Words.{pair, sameWords};
-ghost use Rattle.words.specs.Bytes.{wordOf, wordAt, toWords, toBytes};
+ghost use Rattle.model.specs.Program.{fromBytes};
+ghost use Rattle.words.specs.Bytes.{wordOf, wordAt, toBytes};
 
 // A word as an index or a count.
 pub fn wide(x: u32) -> usize
@@ -74,7 +75,7 @@ pub fn clear(s: &mut [u32])
 // Writes the words of the bytes into the first words of w: a word for each four bytes; one to three bytes at the end are left out.
 pub fn words_of(bytes: &[u8], w: &mut [u32])
     requires { ⌜ length (now bytes) / 4 ≤ length (now w) ⌝ }
-    ensures { λ _. ⌜ now (w .exit) ≡ toWords (now (bytes .entry)) ++ drop (length (now (bytes .entry)) / 4) (now (w .entry)) ⌝ }
+    ensures { λ _. ⌜ now (w .exit) ≡ fromBytes (now (bytes .entry)) ++ drop (length (now (bytes .entry)) / 4) (now (w .entry)) ⌝ }
 {
     let n = bytes.len() / 4;
     let mut i = 0;

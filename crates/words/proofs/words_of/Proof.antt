@@ -3,7 +3,7 @@ use mathlib.Core.Path.{_≡_, _∙_}
 use mathlib.Core.List.{_++_}
 use Prim.Native.Nat.{_≤_, _-_, _/_}
 use lib.ListN.{length, take, drop}
-use Rattle.words.specs.Bytes.{toWords}
+use Rattle.model.specs.Program.{fromBytes}
 use Rattle.words.proofs.Bytes.{put-more, put-all}
 use native.Mathlib.Omega.{arith}
 use borrow.Author.Needs.{needs}
@@ -11,7 +11,7 @@ use Rattle.words.proofs.words_of.Statement.{statement}
 use Rattle.words.proofs.words_of.Tie as tie
 
 abbrev Inv-loop : tie.InvT-loop
-Inv-loop bytes w₀ n i₀ w i = (i ≤ n) × (n ≡ length bytes / 4) × (w ≡ take i (toWords bytes) ++ drop i w₀) × (length w ≡ length w₀)
+Inv-loop bytes w₀ n i₀ w i = (i ≤ n) × (n ≡ length bytes / 4) × (w ≡ take i (fromBytes bytes) ++ drop i w₀) × (length w ≡ length w₀)
 
 abbrev μ-loop : tie.MeasureT-loop
 μ-loop bytes w₀ n i₀ w i = n - i

@@ -1,0 +1,6 @@
+-- Laws of what is printed.
+pub mod Placed
+pub mod Digits
+pub mod Lines
+pub mod Rows
+pub mod Answer
