@@ -1,0 +1,2 @@
+-- An item's ancestry, step by step.
+pub mod Steps

@@ -1,0 +1,3 @@
+-- What comparing two boards finds, and the items that it reads.
+pub mod Agreement
+pub mod Reading
