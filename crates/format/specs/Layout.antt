@@ -1,6 +1,6 @@
 -- What the decoded types of this crate stand for: a head word, and an item's parts by their places.
 -- Paper: "Words on the shelf". Assumes nothing.
-use Prim.Native.Nat.{ℕ, _+_}
+use Prim.Native.Nat.{ℕ}
 use mathlib.Core.List.{List}
 use lib.ListN.{getD}
 use Rattle.model.specs.Words.{kindOf, codeOf, countOf}

@@ -19,7 +19,8 @@ use Rattle.model.specs.Ancestry.{ancestry, listNeed, ancestryAudit, unli
 use Rattle.model.proofs.Tests.{tests, by-if, if-no, if-yes, neither, or-else}
 use Rattle.model.proofs.Acceptance.{accepted↔sound}
 use Rattle.model.proofs.Ancestry.{ancestry-line, line-length}
-use Rattle.model.proofs.Report.{Numbered, audit-numbered, length-filled, filled-rows, filled-rest, filled-at, table-keeps, table-unchanged, table-zero, tables-keep}
+use Rattle.model.proofs.Tables.{length-filled, getD-filled}
+use Rattle.model.proofs.Report.{Numbered, audit-numbered, filled-rows, filled-rest, table-keeps, table-unchanged, table-zero, tables-keep}
 
 -- ---- the audit of this entry: 1, then 2 for any of the three buffers, then the rest
 
@@ -133,9 +134,9 @@ module _ {f : Format} {ws vs : List ℕ} {h : History} (p : Passed f ws vs h) (k
       let few = line-length line in
       rw (list-written h k s one all) (record {
         line = rw filled-rows line;
-        begins = filled-at (length s) numbers 0 some ∙ line-first line;
+        begins = getD-filled (length s) numbers 0 ∙ line-first line;
         some = some;
-        ends = filled-at (length s) numbers (length numbers - 1) (omega arith) ∙ line-last line (length numbers - 1) (omega arith);
+        ends = getD-filled (length s) numbers (length numbers - 1) ∙ line-last line (length numbers - 1) (omega arith);
         few = few;
         fits = rw (length-filled (length s) numbers (omega arith)) (omega arith);
         rest = rw (length-filled (length s) numbers (omega arith)) (filled-rest (length s) numbers);

@@ -1,7 +1,7 @@
 -- The rounds in force by their numbers: a later type 6 with the same number replaces the earlier, so of each number 0..15 at most one round
 -- stands, and the code keeps sixteen item numbers in place of the list. Paper: "Phases". Assumes nothing.
 use Prim.Native.Nat.{ℕ, zero, suc, _+_, _^_, _≤_, _<_}
-use native.Mathlib.Nat.{not-suc-le-zero, le-refl, add-zero}
+use native.Mathlib.Nat.{not-suc-le-zero, le-refl}
 use native.Mathlib.Numerals.{add-one}
 use native.Mathlib.Omega.{arith}
 use mathlib.Core.Path.{_≡_, refl, sym, ap, subst, _∙_}
@@ -10,14 +10,14 @@ use mathlib.Core.List.{List, [], _∷_, _++_}
 use lib.Bits.{bitOr, or-lt}
 use lib.ListN.{length, getD, take, drop, length-take, List·getD-eq-default}
 use lib.Seq.{getD-take, getD-drop}
-use lib.Dec.{T, eqb, ltb, eqb·suc-zero, eqb→eq}
+use lib.Dec.{T, eqb, ltb, eqb→eq}
 use borrow.Author.Tests.{eqb-true, eqb-false, ltb-true, ltb-false, eq-eqb, ne-eqb}
 use Rattle.model.specs.Lists.{if_then_else_, part, any, keep, latest}
 use Rattle.model.specs.Words.{countOf, member}
 use Rattle.model.specs.Codes.{roundType}
 use Rattle.model.specs.Format.{Format}
 use Rattle.model.specs.Item.{Item, itemAt, contentAt, code, word}
-use Rattle.model.specs.History.{History, Entry, absent, entry, entryOf, itemNo, itemsWith, last, lastFrom, typed, placeOf, history}
+use Rattle.model.specs.History.{History, Entry, absent, entry, entryOf, itemNo, itemsWith, lastFrom, typed, placeOf, history}
 use Rattle.model.specs.Phase.{roundNumber, roundContests, sameRound, rounds, isOpen}
 use Rattle.model.specs.Content.{enables, roundOk}
 use Rattle.model.specs.Standing.{anyBelow, unionBelow, numbered, roundAt, slots, openContests, enabledSet}
@@ -25,6 +25,7 @@ use Rattle.model.specs.Sound.{Meets, Passed, none, next}
 use Rattle.model.proofs.Tests.{by-test, passes, by-if, facts}
 use Rattle.model.proofs.Lists.{Every, every-snoc}
 use Rattle.model.proofs.Numbers.{lastEntry, entry-last}
+use Rattle.model.proofs.State.{last-snoc, any-last}
 use Rattle.model.proofs.Rules.{content-rules}
 use Rattle.model.proofs.Sets.{member-zero, member-or}
 
@@ -93,31 +94,6 @@ or-none true b q = (q, cc)
 or-none false b q = (refl, q)
 
 module _ (t : Entry → Bool) where
-  last-some-from : (k found : ℕ) (es : List Entry) → not (eqb (lastFrom (suc k) found t es) 0) ≡ (any t es || not (eqb found 0))
-  unfolding lastFrom any if_then_else_
-  last-some-from k found [] = refl
-  last-some-from k found (e ∷ es) =
-      by-test (t e)
-      (λ q. rw q (last-some-from (suc k) (suc k) es ∙ rw (eqb·suc-zero k, or-true)))
-      (λ q. rw q (last-some-from (suc k) found es))
-
-  -- there is one where any passes
-  pub last-any : (h : History) → not (eqb (last t h) 0) ≡ any t h
-  last-any h = last-some-from 0 0 h ∙ or-false (any t h)
-
-  last-snoc-from : (k found : ℕ) (es : List Entry) (e : Entry)
-      → lastFrom k found t (es ++ (e ∷ [])) ≡ (if t e then k + length es else lastFrom k found t es)
-  unfolding lastFrom if_then_else_
-  last-snoc-from k found [] e = rw add-zero
-  last-snoc-from k found (x ∷ es) e =
-      let same : suc k + length es ≡ k + suc (length es) = omega arith in
-      by-test (t x)
-      (λ q. rw (q, ← same) (last-snoc-from (suc k) k es e))
-      (λ q. rw (q, ← same) (last-snoc-from (suc k) found es e))
-
-  last-snoc : (h : History) (e : Entry) → last t (h ++ (e ∷ [])) ≡ (if t e then suc (length h) else last t h)
-  last-snoc h e = let same : 1 + length h ≡ suc (length h) = omega arith in rw (← same) (last-snoc-from 1 0 h e)
-
   last-bound-from : (k found : ℕ) (es : List Entry) → found ≤ k → lastFrom (suc k) found t es ≤ k + length es
   unfolding lastFrom if_then_else_
   last-bound-from k found [] l = omega arith
@@ -224,7 +200,7 @@ module _ (p : Item → Bool) where
   any-rounds h small =
       any-slots slots h small
       ∙ anyBelow-ext slots (slot h) (λ j. not (eqb (roundAt h j) 0) && p (itemNo h (roundAt h j)))
-      (λ j l. rw (last-any (numbered j) h)
+      (λ j l. rw (← any-last (numbered j) h)
       (passes-last (numbered j) p absent h ∙ ap (λ (e : Entry). any (numbered j) h && p (e .item)) (sym (entry-last (numbered j) h))))
 
 -- ---- content words are words of 32 bits

@@ -6,7 +6,6 @@ use mathlib.Core.Logic.{_≢_}
 use mathlib.Core.Bool.{Bool, false}
 use mathlib.Core.List.{List}
 use lib.ListN.{length, getD}
-use lib.Dec.{eqb}
 use borrow.Author.Tests.{ne-eqb}
 use Rattle.model.specs.Lists.{part}
 use Rattle.model.specs.Words.{sameWords, countOf}
@@ -16,7 +15,7 @@ use Rattle.format.specs.declared.item.Item.{Item}
 use Rattle.format.specs.Base.{base}
 use Rattle.format.specs.Layout.{itemOf}
 use Rattle.format.proofs.Places.{count-is, hashed-is, signature-behind, address-is}
-use Rattle.pairs.specs.Reading.{Read, IsItem}
+use Rattle.pairs.specs.Reading.{Read}
 
 -- an item that is read: its hashed words and its address lie within the board
 module _ {board : List ℕ} {i : Item} (r : Read board i) where

@@ -17,7 +17,7 @@ use Rattle.index.specs.declared.Known.{Known}
 use Rattle.index.specs.Kept.{before}
 use Rattle.index.specs.Known.{IsKnown}
 use Rattle.lookup.specs.Search.{mainFrom, mainEntry}
-use Rattle.pairs.specs.Reading.{Read, IsItem, Numbered}
+use Rattle.pairs.specs.Reading.{IsItem, Numbered}
 
 -- main item m + 1 of the items es, which stand in h from item number k + 1 on, has the item number x
 pub record Found (h : History) (k m : ℕ) (es : History) (x : ℕ) : Type 0 where
