@@ -13,7 +13,7 @@ use borrow.Author.Tests.{eq-eqb, ne-eqb}
 use Rattle.model.specs.Lists.{part}
 use Rattle.model.specs.Words.{kindOf, sameWords, verdictKind}
 use Rattle.model.specs.Format.{keySize, verdictSize}
-use Rattle.model.specs.Item.{Item, itemLength}
+use Rattle.model.specs.Item.{Item}
 use Rattle.model.specs.History.{History, Entry, absent, entry, itemNo, history}
 use Rattle.model.specs.Keys.{opening, keyAt, keyOf, verdictOk, keyOk, signatureOk}
 use Rattle.model.proofs.Numbers.{entry-none}
@@ -24,7 +24,6 @@ use Rattle.format.specs.declared.item.Item as layout
 use Rattle.format.specs.declared.table.Writer.{Writer}
 use Rattle.format.specs.declared.table.Writer.the-variants.{Administrator, BallotBox, Authorizer, Voter, Verifier}
 use Rattle.format.specs.Base.{base}
-use Rattle.format.specs.Layout.{itemOf}
 use Rattle.format.specs.Table.{writerOf}
 use Rattle.format.proofs.Places.{content-is}
 use Rattle.index.specs.declared.Known.{Known}
@@ -137,11 +136,7 @@ module _ (h : History) (vs : List ℕ) (at k : ℕ) (v : at + keySize ≤ length
 
 module _ {board : List ℕ} {e : Entry} {r : Known} (is : IsKnown board e r) where
   -- the content of an earlier item
-  pub known-within : r .item .content + r .item .head .count ≤ length board
-  unfolding itemOf itemLength
-  known-within = let end = is .within in rw (known-item is) (omega (arith, rw (known-item is) at (is .within)))
-
-  pub known-content : part (r .item .content) (r .item .head .count) board ≡ e .item .content
+  known-content : part (r .item .content) (r .item .head .count) board ≡ e .item .content
   known-content =
       ap (λ (i : layout.Item). part (i .content) (i .head .count) board) (known-item is)
       ∙ content-is board (e .place)

@@ -1,9 +1,10 @@
 -- `is_earlier_key` meets its contract. Assumes nothing.
 use mathlib.Core.Path.{_∙_}
+use Rattle.index.proofs.Reading.{known-within}
 use Rattle.model.proofs.Unchecked.{length-history}
 use Rattle.format.specs.Base.{base}
 use Rattle.index.specs.Kept.{before}
-use Rattle.keys.proofs.Keys.{key-none, key-past, known-within, key-known}
+use Rattle.keys.proofs.Keys.{key-none, key-past, key-known}
 use native.Mathlib.Omega.{arith}
 use borrow.Author.Needs.{needs}
 use Rattle.keys.proofs.is_earlier_key.Statement.{statement}
@@ -25,7 +26,7 @@ entry-requires c κs = search needs
 is-key-requires : tie.Need-is-key-requires
 is-key-requires c κs =
     let s = c .before .before .before .before .before .before .before in
-    (known-within (c .before .entry .ensures), s .pre .1, s .pre .2)
+    (known-within (c .before .entry .ensures) .content, s .pre .1, s .pre .2)
 
 returns-3 : tie.Need-returns-3
 returns-3 c =
