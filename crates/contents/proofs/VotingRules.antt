@@ -11,7 +11,7 @@ use lib.Dec.{eqb, leb}
 use borrow.Author.Tests.{eq-eqb, ne-eqb, le-leb, lt-leb}
 use Rattle.model.specs.Lists.{_⇒_, part}
 use Rattle.model.specs.Words.{pair, lowZero}
-use Rattle.model.specs.Codes.{sessionType, ballotType}
+use Rattle.model.specs.Codes.{sessionType, voterCommitmentType, serverCommitmentType, ballotType}
 use Rattle.model.specs.Item.{Item, code, time, word}
 use Rattle.model.specs.History.{History, itemNo, sessionNumber, sessionContests}
 use Rattle.model.specs.Content.{contestsOk, cryptogramsOk, sessionOk, commitmentOk, ballotOk}
@@ -66,18 +66,18 @@ module _ {board index : List ℕ} {s : State} {c : Known} (a : AtItem board inde
 
   -- ---- 17 and 18, commitments
 
-  pub commitment-below : c .item .head .code < 17 → true ≡ commitmentOk base i
+  pub commitment-below : c .item .head .code < voterCommitmentType → true ≡ commitmentOk base i
   unfolding commitmentOk _⇒_
-  commitment-below l = rw (lt-leb 17 (code i) (rw (at-code a) at l))
+  commitment-below l = rw (lt-leb voterCommitmentType (code i) (rw (at-code a) at l))
 
-  pub commitment-above : 17 ≤ c .item .head .code → 18 < c .item .head .code → true ≡ commitmentOk base i
+  pub commitment-above : voterCommitmentType ≤ c .item .head .code → serverCommitmentType < c .item .head .code → true ≡ commitmentOk base i
   unfolding commitmentOk _⇒_
-  commitment-above k l = rw (le-leb 17 (code i) (rw (at-code a) at k), lt-leb (code i) 18 (rw (at-code a) at l))
+  commitment-above k l = rw (le-leb voterCommitmentType (code i) (rw (at-code a) at k), lt-leb (code i) serverCommitmentType (rw (at-code a) at l))
 
-  pub commitment-is : 17 ≤ c .item .head .code → c .item .head .code ≤ 18 → (last : ℕ) → last ≡ word 8 i
+  pub commitment-is : voterCommitmentType ≤ c .item .head .code → c .item .head .code ≤ serverCommitmentType → (last : ℕ) → last ≡ word 8 i
       → eqb (last % 2 ^ 24) 0 ≡ commitmentOk base i
   unfolding commitmentOk _⇒_ lowZero
-  commitment-is k l last e = rw (le-leb 17 (code i) (rw (at-code a) at k), le-leb (code i) 18 (rw (at-code a) at l), e)
+  commitment-is k l last e = rw (le-leb voterCommitmentType (code i) (rw (at-code a) at k), le-leb (code i) serverCommitmentType (rw (at-code a) at l), e)
 
   -- ---- 19, ballot
 

@@ -31,13 +31,15 @@ pair-requires-2 c κs =
 
 returns-2 : tie.Need-returns-2
 returns-2 c =
-    let s = c .before .before .before .before .before .before .before .before .before .before in
-    rw (lt-leb _ _ (c .if2 .taken)) at (round-is (s .pre) (c .before .before .before .before .before .before .if1 .left) _ _ _ _ (c .before .before .before .before .word .ensures ∙ content-word (s .pre) 0) (c .before .before .before .word2 .ensures ∙ content-word (s .pre) 1) (c .before .before .pair .ensures) (c .before .pair2 .ensures))
+    let w = c .before in
+    let s = w .before .before .before .before .before .before .before .before .before in
+    rw (lt-leb _ _ (c .if2 .taken)) at (round-is (s .pre) (w .before .before .before .before .before .if1 .left) _ _ _ _ (w .before .before .before .word .ensures ∙ content-word (s .pre) 0) (w .before .before .word2 .ensures ∙ content-word (s .pre) 1) (w .before .pair .ensures) (w .pair2 .ensures))
 
 returns-3 : tie.Need-returns-3
 returns-3 c =
-    let s = c .before .before .before .before .before .before .before .before .before .before .before in
-    rw (le-leb _ _ (c .before .if2 .left), le-ltb _ _ (c .if3 .taken)) at (round-is (s .pre) (c .before .before .before .before .before .before .before .if1 .left) _ _ _ _ (c .before .before .before .before .before .word .ensures ∙ content-word (s .pre) 0) (c .before .before .before .before .word2 .ensures ∙ content-word (s .pre) 1) (c .before .before .before .pair .ensures) (c .before .before .pair2 .ensures))
+    let w = c .before .before in
+    let s = w .before .before .before .before .before .before .before .before .before in
+    rw (le-leb _ _ (c .before .if2 .left), le-ltb _ _ (c .if3 .taken)) at (round-is (s .pre) (w .before .before .before .before .before .if1 .left) _ _ _ _ (w .before .before .before .word .ensures ∙ content-word (s .pre) 0) (w .before .before .word2 .ensures ∙ content-word (s .pre) 1) (w .before .pair .ensures) (w .pair2 .ensures))
 
 contests-ok-requires : tie.Need-contests-ok-requires
 contests-ok-requires c κs =
@@ -46,9 +48,10 @@ contests-ok-requires c κs =
 
 returns-4 : tie.Need-returns-4
 returns-4 c =
-    let s = c .before .before .before .before .before .before .before .before .before .before .before .before in
+    let w = c .before .before .before in
+    let s = w .before .before .before .before .before .before .before .before .before in
     c .contests-ok .ensures
-    ∙ rw (le-leb _ _ (c .before .before .if2 .left), lt-ltb _ _ (c .before .if3 .left)) at (round-is (s .pre) (c .before .before .before .before .before .before .before .before .if1 .left) _ _ _ _ (c .before .before .before .before .before .before .word .ensures ∙ content-word (s .pre) 0) (c .before .before .before .before .before .word2 .ensures ∙ content-word (s .pre) 1) (c .before .before .before .before .pair .ensures) (c .before .before .before .pair2 .ensures))
+    ∙ rw (le-leb _ _ (c .before .before .if2 .left), lt-ltb _ _ (c .before .if3 .left)) at (round-is (s .pre) (w .before .before .before .before .before .if1 .left) _ _ _ _ (w .before .before .before .word .ensures ∙ content-word (s .pre) 0) (w .before .before .word2 .ensures ∙ content-word (s .pre) 1) (w .before .pair .ensures) (w .pair2 .ensures))
 
 pub round-ok-spec : {M : Type 1} → statement M
 round-ok-spec =

@@ -20,18 +20,21 @@ word-requires-2 c κs =
 
 returns-2 : tie.Need-returns-2
 returns-2 c =
-    let s = c .before .before .before .before .before .before .before .before in
-    rw (lt-leb _ _ (c .if2 .taken)) at (threshold-is (s .pre) (c .before .before .before .before .if1 .left) _ _ (c .before .before .word .ensures ∙ content-word (s .pre) 0) (c .before .word2 .ensures ∙ content-word (s .pre) 1))
+    let w = c .before in
+    let s = w .before .before .before .before .before .before .before in
+    rw (lt-leb _ _ (c .if2 .taken)) at (threshold-is (s .pre) (w .before .before .before .if1 .left) _ _ (w .before .word .ensures ∙ content-word (s .pre) 0) (w .word2 .ensures ∙ content-word (s .pre) 1))
 
 returns-3 : tie.Need-returns-3
 returns-3 c =
-    let s = c .before .before .before .before .before .before .before .before .before in
-    rw (le-leb _ _ (c .before .if2 .left), lt-leb _ _ (c .if3 .taken)) at (threshold-is (s .pre) (c .before .before .before .before .before .if1 .left) _ _ (c .before .before .before .word .ensures ∙ content-word (s .pre) 0) (c .before .before .word2 .ensures ∙ content-word (s .pre) 1))
+    let w = c .before .before in
+    let s = w .before .before .before .before .before .before .before in
+    rw (le-leb _ _ (c .before .if2 .left), lt-leb _ _ (c .if3 .taken)) at (threshold-is (s .pre) (w .before .before .before .if1 .left) _ _ (w .before .word .ensures ∙ content-word (s .pre) 0) (w .word2 .ensures ∙ content-word (s .pre) 1))
 
 returns-4 : tie.Need-returns-4
 returns-4 c =
-    let s = c .before .before .before .before .before .before .before .before .before in
-    rw (le-leb _ _ (c .before .if2 .left), le-leb _ _ (c .if3 .left)) at (threshold-is (s .pre) (c .before .before .before .before .before .if1 .left) _ _ (c .before .before .before .word .ensures ∙ content-word (s .pre) 0) (c .before .before .word2 .ensures ∙ content-word (s .pre) 1))
+    let w = c .before .before in
+    let s = w .before .before .before .before .before .before .before in
+    rw (le-leb _ _ (c .before .if2 .left), le-leb _ _ (c .if3 .left)) at (threshold-is (s .pre) (w .before .before .before .if1 .left) _ _ (w .before .word .ensures ∙ content-word (s .pre) 0) (w .word2 .ensures ∙ content-word (s .pre) 1))
 
 pub threshold-ok-spec : {M : Type 1} → statement M
 threshold-ok-spec =

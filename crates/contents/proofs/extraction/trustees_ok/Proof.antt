@@ -29,8 +29,9 @@ add-if2 c =
 
 returns-2 : tie.Need-returns-2
 returns-2 c =
-    let s = c .before .before .before .before .before .before .before .before .before in
-    rw (ne-eqb _ _ (c .if2 .taken)) at (trustees-is (s .pre) (c .before .before .before .before .before .if1 .left) (c .before .before .before .word .result) (c .before .before .wide .result) _ _ _ _ (omega arith) (c .before .before .before .word .ensures ∙ content-word (s .pre) 0) (c .before .before .wide .ensures) refl refl refl refl)
+    let w = c .before .before in
+    let s = w .before .before .before .before .before .before .before in
+    rw (ne-eqb _ _ (c .if2 .taken)) at (trustees-is (s .pre) (w .before .before .before .if1 .left) (w .before .word .result) (w .wide .result) _ _ _ _ (omega arith) (w .before .word .ensures ∙ content-word (s .pre) 0) (w .wide .ensures) refl refl refl refl)
 
 earlier-word-requires : tie.Need-earlier-word-requires
 earlier-word-requires c κs =
@@ -45,13 +46,15 @@ is-below-requires c κs = search needs
 
 returns-3 : tie.Need-returns-3
 returns-3 c =
-    let s = c .before .before .before .before .before .before .before .before .before .before .before .before .before in
-    rw (eq-eqb _ _ (c .before .before .before .before .if2 .left), c .if3 .taken) at (trustees-is (s .pre) (c .before .before .before .before .before .before .before .before .before .if1 .left) (c .before .before .before .before .before .before .before .word .result) (c .before .before .before .before .before .before .wide .result) _ _ _ _ (omega arith) (c .before .before .before .before .before .before .before .word .ensures ∙ content-word (s .pre) 0) (c .before .before .before .before .before .before .wide .ensures) refl (c .before .before .before .earlier-word .ensures) (c .before .before .earlier-word2 .ensures) (c .before .is-below .ensures))
+    let w = c .before .before .before .before .before .before in
+    let s = w .before .before .before .before .before .before .before in
+    rw (eq-eqb _ _ (c .before .before .before .before .if2 .left), c .if3 .taken) at (trustees-is (s .pre) (w .before .before .before .if1 .left) (w .before .word .result) (w .wide .result) _ _ _ _ (omega arith) (w .before .word .ensures ∙ content-word (s .pre) 0) (w .wide .ensures) refl (c .before .before .before .earlier-word .ensures) (c .before .before .earlier-word2 .ensures) (c .before .is-below .ensures))
 
 returns-4 : tie.Need-returns-4
 returns-4 c =
-    let s = c .before .before .before .before .before .before .before .before .before .before .before .before .before in
-    rw (c .if3 .left) (rw (eq-eqb _ _ (c .before .before .before .before .if2 .left), c .if3 .left) at (trustees-is (s .pre) (c .before .before .before .before .before .before .before .before .before .if1 .left) (c .before .before .before .before .before .before .before .word .result) (c .before .before .before .before .before .before .wide .result) _ _ _ _ (omega arith) (c .before .before .before .before .before .before .before .word .ensures ∙ content-word (s .pre) 0) (c .before .before .before .before .before .before .wide .ensures) refl (c .before .before .before .earlier-word .ensures) (c .before .before .earlier-word2 .ensures) (c .before .is-below .ensures)))
+    let w = c .before .before .before .before .before .before in
+    let s = w .before .before .before .before .before .before .before in
+    rw (c .if3 .left) (rw (eq-eqb _ _ (c .before .before .before .before .if2 .left), c .if3 .left) at (trustees-is (s .pre) (w .before .before .before .if1 .left) (w .before .word .result) (w .wide .result) _ _ _ _ (omega arith) (w .before .word .ensures ∙ content-word (s .pre) 0) (w .wide .ensures) refl (c .before .before .before .earlier-word .ensures) (c .before .before .earlier-word2 .ensures) (c .before .is-below .ensures)))
 
 pub trustees-ok-spec : {M : Type 1} → statement M
 trustees-ok-spec =

@@ -29,27 +29,31 @@ add-if2 c =
 
 returns-2 : tie.Need-returns-2
 returns-2 c =
-    let s = c .before .before .before .before .before .before .before .before .before in
-    rw (ne-eqb _ _ (c .if2 .taken)) at (ballot-is (s .pre) (λ k. omega (arith, c .before .before .before .before .before .before .before .before .shared-slice-known .given k)) (c .before .before .before .before .before .if1 .left) (c .before .before .before .word .result) (c .before .before .wide .result) _ (omega arith) (c .before .before .before .word .ensures ∙ content-word (s .pre) 0) (c .before .before .wide .ensures) refl)
+    let w = c .before .before in
+    let s = w .before .before .before .before .before .before .before in
+    rw (ne-eqb _ _ (c .if2 .taken)) at (ballot-is (s .pre) (λ k. omega (arith, w .before .before .before .before .before .before .shared-slice-known .given k)) (w .before .before .before .if1 .left) (w .before .word .result) (w .wide .result) _ (omega arith) (w .before .word .ensures ∙ content-word (s .pre) 0) (w .wide .ensures) refl)
 
 enabled-requires : tie.Need-enabled-requires
 enabled-requires c κs = search needs
 
 returns-3 : tie.Need-returns-3
 returns-3 c =
-    let s = c .before .before .before .before .before .before .before .before .before .before .before in
-    rw (eq-eqb _ _ (c .before .before .if2 .left), ne-eqb _ _ (c .if3 .taken)) at (ballot-is (s .pre) (λ k. omega (arith, c .before .before .before .before .before .before .before .before .before .before .shared-slice-known .given k)) (c .before .before .before .before .before .before .before .if1 .left) (c .before .before .before .before .before .word .result) (c .before .before .before .before .wide .result) _ (omega arith) (c .before .before .before .before .before .word .ensures ∙ content-word (s .pre) 0) (c .before .before .before .before .wide .ensures) (c .before .enabled .ensures))
+    let w = c .before .before .before .before in
+    let s = w .before .before .before .before .before .before .before in
+    rw (eq-eqb _ _ (c .before .before .if2 .left), ne-eqb _ _ (c .if3 .taken)) at (ballot-is (s .pre) (λ k. omega (arith, w .before .before .before .before .before .before .shared-slice-known .given k)) (w .before .before .before .if1 .left) (w .before .word .result) (w .wide .result) _ (omega arith) (w .before .word .ensures ∙ content-word (s .pre) 0) (w .wide .ensures) (c .before .enabled .ensures))
 
 cryptograms-ok-requires : tie.Need-cryptograms-ok-requires
 cryptograms-ok-requires c κs =
-    let s = c .before .before .before .before .before .before .before .before .before .before .before in
-    (content-within (s .pre), omega (arith, c .before .before .before .before .wide .ensures, ones-few (c .before .before .before .before .before .word .result) (omega arith)))
+    let w = c .before .before .before .before in
+    let s = w .before .before .before .before .before .before .before in
+    (content-within (s .pre), omega (arith, w .wide .ensures, ones-few (w .before .word .result) (omega arith)))
 
 returns-4 : tie.Need-returns-4
 returns-4 c =
-    let s = c .before .before .before .before .before .before .before .before .before .before .before .before in
+    let w = c .before .before .before .before .before in
+    let s = w .before .before .before .before .before .before .before in
     c .cryptograms-ok .ensures
-    ∙ rw (eq-eqb _ _ (c .before .before .before .if2 .left), eq-eqb _ _ (c .before .if3 .left)) at (ballot-is (s .pre) (λ k. omega (arith, c .before .before .before .before .before .before .before .before .before .before .before .shared-slice-known .given k)) (c .before .before .before .before .before .before .before .before .if1 .left) (c .before .before .before .before .before .before .word .result) (c .before .before .before .before .before .wide .result) _ (omega arith) (c .before .before .before .before .before .before .word .ensures ∙ content-word (s .pre) 0) (c .before .before .before .before .before .wide .ensures) (c .before .before .enabled .ensures))
+    ∙ rw (eq-eqb _ _ (c .before .before .before .if2 .left), eq-eqb _ _ (c .before .if3 .left)) at (ballot-is (s .pre) (λ k. omega (arith, w .before .before .before .before .before .before .shared-slice-known .given k)) (w .before .before .before .if1 .left) (w .before .word .result) (w .wide .result) _ (omega arith) (w .before .word .ensures ∙ content-word (s .pre) 0) (w .wide .ensures) (c .before .before .enabled .ensures))
 
 pub ballot-ok-spec : {M : Type 1} → statement M
 ballot-ok-spec =
