@@ -17,7 +17,8 @@ use Rattle.model.specs.History.{History, itemNo, sessionNumber, sessionContests
 use Rattle.model.specs.Content.{contestsOk, cryptogramsOk, sessionOk, commitmentOk, ballotOk}
 use Rattle.model.proofs.Sets.{size-ones}
 use Rattle.model.proofs.Defined.{allIn-mayVote}
-use Rattle.model.proofs.Rounds.{enabledSet, history-words, rounds-small}
+use Rattle.model.specs.Standing.{enabledSet}
+use Rattle.model.proofs.Rounds.{history-words, rounds-small}
 use Rattle.format.specs.Base.{base}
 use Rattle.index.specs.declared.Known.{Known}
 use Rattle.index.specs.Kept.{before, itemAfter}

@@ -9,7 +9,7 @@ ghost use Rattle.model.specs.Words.{setBits};
 ghost use Rattle.model.specs.Item.{time};
 ghost use Rattle.model.specs.History.{itemNo, sessionNumber, sessionContests};
 ghost use Rattle.model.specs.Content.{cryptogramsOk, sessionOk, commitmentOk, ballotOk};
-ghost use Rattle.model.proofs.Rounds.{enabledSet};
+ghost use Rattle.model.specs.Standing.{enabledSet};
 ghost use Rattle.format.specs.Base.{base};
 ghost use Rattle.index.specs.Kept.{before, itemAfter};
 ghost use Rattle.state.specs.Stands.{AtItem};
