@@ -1,13 +1,13 @@
 -- How many content words an item of a type has, by the table of item types. Assumes nothing.
 use Prim.Native.Nat.{ℕ, _+_, _*_, _≤_}
 use native.Mathlib.Omega.{arith}
-use mathlib.Core.Path.{_≡_, ap, _∙_}
+use mathlib.Core.Path.{_≡_, ap}
 use mathlib.Core.Bool.{Bool, _&&_}
 use mathlib.Core.List.{List}
-use lib.ListN.{length}
 use lib.Dec.{T, eqb, leb}
 use Rattle.model.specs.Lists.{_⇒_}
 use Rattle.model.specs.Words.{codeOf, countOf, setBits}
+use Rattle.model.specs.Codes.{genesisType, contestType, thresholdType, authorizerType, roundType, sessionType, ballotType, extractionType, verifierType}
 use Rattle.model.specs.Item.{Item, itemAt, code}
 use Rattle.model.specs.Types.{Counts, from_to_, oneAndEach, table, Listed, fits}
 use Rattle.model.specs.History.{entry}
@@ -16,7 +16,7 @@ use Rattle.model.proofs.Table.{everyRow, row-law}
 use Rattle.format.specs.Base.{base}
 use Rattle.format.specs.Layout.{itemOf}
 use Rattle.index.specs.Kept.{before, Kept}
-use Rattle.index.proofs.Items.{entry-item, entry-fine, entry-shaped}
+use Rattle.index.proofs.Items.{entry-item, entry-listed, entry-fits}
 
 -- no count of these is outside two numbers
 unfoldable pub isWithin : ℕ → ℕ → Counts → Bool
@@ -38,13 +38,17 @@ pub words-law : {w : ℕ} (c low high n : ℕ) → T (hasWords c low high) → (
 unfolding hasWords
 words-law c low high n t l e = fits-within (l .row .counts) low high n (simp facts at (row-law (λ k x r. eqb x c ⇒ isWithin low high (r .counts)) t l) e)
 
+-- the contents that are read word by word
+pub sizes : T (hasWords genesisType 17 17 && hasWords contestType 1 65 && hasWords thresholdType 10 10 && hasWords authorizerType 9 9
+    && hasWords roundType 6 6 && hasWords sessionType 19 19 && hasWords ballotType 18 545 && hasWords extractionType 8 8 && hasWords verifierType 8 8)
+unfolding hasWords
+sizes = tt
+
 module _ {board index : List ℕ} {n : ℕ} (kept : Kept board index n) where
   -- an item that passed has the words that its type allows
   pub entry-words : (k : ℕ) → 1 ≤ k → k ≤ n → (c low high : ℕ) → T (hasWords c low high) → code (entry (before board n) k .item) ≡ c
       → (low ≤ itemOf board (entry (before board n) k .place) .head .count) × (itemOf board (entry (before board n) k .place) .head .count ≤ high)
   unfolding itemOf itemAt
   entry-words k s l c low high t e =
-      let fine = entry-fine kept k s l in
-      let size : length (entry (before board n) k .item .content) ≡ countOf (entry (before board n) k .item .head) = entry-shaped kept k s l .content in
       let head = ap (λ (i : Item). countOf (i .head)) (entry-item board n k s l) in
-      rw (size ∙ head) at (words-law c low high _ t (fine .type) e (fine .words))
+      rw head at (words-law c low high _ t (entry-listed kept k s l) e (entry-fits kept k s l))

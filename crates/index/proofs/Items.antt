@@ -11,8 +11,10 @@ use mathlib.Core.List.{List}
 use lib.ListN.{length}
 use lib.Dec.{T, eqb}
 use borrow.Author.Tests.{ne-eqb}
-use Rattle.model.specs.Codes.{sessionType}
+use Rattle.model.specs.Words.{countOf}
+use Rattle.model.specs.Codes.{genesisType, sessionType}
 use Rattle.model.specs.Item.{itemAt, code}
+use Rattle.model.specs.Types.{Listed, fits}
 use Rattle.model.specs.History.{entry, typed, placeOf, entryOf}
 use Rattle.model.specs.Sound.{Shaped, Meets, Passed}
 use Rattle.model.proofs.Tests.{by-test}
@@ -78,6 +80,13 @@ module _ {board index : List ℕ} {n : ℕ} (kept : Kept board index n) where
   pub entry-fine : (k : ℕ) → 1 ≤ k → k ≤ n → Fine base (before board n) (entry (before board n) k)
   entry-fine k s l = fine-at (orderly (kept .passed)) k s (omega (arith, length-history base board n))
 
+  abbrev pub entry-listed : (k : ℕ) → 1 ≤ k → k ≤ n → Listed base (entry (before board n) k .item .head)
+  entry-listed k s l = entry-fine k s l .type
+
+  pub entry-fits : (k : ℕ) (s : 1 ≤ k) (l : k ≤ n)
+      → T (fits (entry-listed k s l .row .counts) (countOf (entry (before board n) k .item .head)))
+  entry-fits k s l = rw (entry-shaped k s l .content) at (entry-fine k s l .words)
+
   pub entry-met : (k : ℕ) → k < n → Met board k
   unfolding entryOf
   entry-met k l =
@@ -93,11 +102,11 @@ module _ {board index : List ℕ} {n : ℕ} (kept : Kept board index n) where
       }
 
   -- a parent is earlier; genesis has its own number
-  pub entry-parent-earlier : (k : ℕ) → 1 ≤ k → k ≤ n → code (entry (before board n) k .item) ≢ 1 → entry (before board n) k .parent < k
+  pub entry-parent-earlier : (k : ℕ) → 1 ≤ k → k ≤ n → code (entry (before board n) k .item) ≢ genesisType → entry (before board n) k .parent < k
   unfolding entryOf
   entry-parent-earlier zero s l q = absurd (not-suc-le-zero s)
   entry-parent-earlier (suc k) s l q =
-      let later : eqb (code (itemAfter board k)) 1 ≡ false = ne-eqb _ _ (rw (entry-made board n k l) at q) in
+      let later : eqb (code (itemAfter board k)) genesisType ≡ false = ne-eqb _ _ (rw (entry-made board n k l) at q) in
       rw (entry-made board n k l) (omega (arith, parent-bound (before board k) (itemAfter board k) later, length-history base board k))
 
   pub entry-parent-bound : (k : ℕ) → 1 ≤ k → k ≤ n → (1 ≤ entry (before board n) k .parent) × (entry (before board n) k .parent ≤ k)
@@ -108,7 +117,7 @@ module _ {board index : List ℕ} {n : ℕ} (kept : Kept board index n) where
       let i = itemAfter board k in
       let size = length-history base board k in (
         entry-fine (suc k) s l .parent-some,
-        rw (entry-made board n k l) (by-test (eqb (code i) 1) (λ q. omega (arith, parent-genesis h i q)) (λ q. omega (arith, parent-bound h i q))),
+        rw (entry-made board n k l) (by-test (eqb (code i) genesisType) (λ q. omega (arith, parent-genesis h i q)) (λ q. omega (arith, parent-bound h i q))),
       )
 
   -- a session is no later, and is one

@@ -2,12 +2,14 @@
 use Prim.Native.Nat.{ℕ, _+_, _≤_, _<_}
 use mathlib.Core.Path.{_≡_, refl, sym, ap, _∙_}
 use mathlib.Core.List.{List}
-use lib.ListN.{getD}
+use native.Mathlib.Omega.{arith}
+use lib.ListN.{length, getD}
 use lib.Dec.{eqb}
 use Rattle.model.specs.Lists.{part}
 use Rattle.model.specs.Words.{kindOf, countOf, mainKind}
+use Rattle.model.specs.Format.{timeSize}
 use Rattle.model.specs.Item as model
-use Rattle.model.specs.Item.{code, word}
+use Rattle.model.specs.Item.{itemAt, itemLength, code, word}
 use Rattle.model.specs.History.{Entry, main, entry}
 use Rattle.format.specs.declared.head.Head.{Head}
 use Rattle.format.specs.declared.item.Item.{Item}
@@ -25,14 +27,39 @@ pub entry-known : {board index : List ℕ} {n : ℕ} → Kept board index n → 
 entry-known {board} {index} {n} kept k s l =
     record { same = refl; item = entry-item board n k s l; within = item-within kept k s l .0 }
 
+-- the head of an entry that stands at its place
+pub head-of-entry : (board : List ℕ) (e : Entry) → e .item ≡ itemAt base board (e .place) → knownOf board e .item .head ≡ headOf (e .item .head)
+head-of-entry board e same = head-is board (e .place) ∙ ap (λ (i : model.Item). headOf (i .head)) (sym same)
+
+-- the parts of an item that ends within the board lie within it
+pub record Within (board : List ℕ) (i : Item) : Type 0 where
+  pub content : i .content + i .head .count ≤ length board
+  pub parent : i .parent + base .address ≤ length board
+  pub previous : i .previous + base .address ≤ length board
+  pub time : i .time + timeSize ≤ length board
+  pub signature : i .signature + base .signature ≤ length board
+  pub address : i .address + base .address ≤ length board
+
+pub parts-within : {board : List ℕ} (p : ℕ) {i : Item} → i ≡ itemOf board p → i .end ≤ length board → Within board i
+unfolding itemOf itemLength
+parts-within p e l =
+    let end = rw e at l in
+    rw e (record {
+      content = omega arith;
+      parent = omega arith;
+      previous = omega arith;
+      time = omega arith;
+      signature = omega arith;
+      address = omega arith;
+    })
+
 module _ {board : List ℕ} {e : Entry} {r : Known} (is : IsKnown board e r) where
   pub known-item : r .item ≡ itemOf board (e .place)
   known-item = ap (λ (k : Known). k .item) (is .same)
 
   -- the head
   pub known-head : r .item .head ≡ headOf (e .item .head)
-  known-head =
-      ap (λ (i : Item). i .head) known-item ∙ head-is board (e .place) ∙ ap (λ (i : model.Item). headOf (i .head)) (sym (is .item))
+  known-head = ap (λ (i : Item). i .head) known-item ∙ head-of-entry board e (is .item)
 
   pub known-code : r .item .head .code ≡ code (e .item)
   known-code = ap (λ (h : Head). h .code) known-head
@@ -51,6 +78,9 @@ module _ {board : List ℕ} {e : Entry} {r : Known} (is : IsKnown board e r) whe
 
   pub known-session : r .session ≡ e .session
   known-session = ap (λ (k : Known). k .session) (is .same)
+
+  pub known-within : Within board (r .item)
+  known-within = parts-within (e .place) known-item (is .within)
 
   -- words of the board
   pub known-address : part (r .item .address) (base .address) board ≡ e .item .address

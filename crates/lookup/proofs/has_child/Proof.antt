@@ -1,0 +1,67 @@
+-- `has_child` meets its contract. The loop's invariant: there is a child where there is one from the present item on. Assumes nothing.
+use borrow.Author.Needs.{needs}
+use Prim.Native.Nat.{_+_, _-_, _≤_}
+use mathlib.Core.Path.{_≡_, refl, sym, _∙_}
+use Rattle.model.specs.Lists.{any}
+use Rattle.model.specs.Words.{between}
+use Rattle.model.specs.Only.{childOf}
+use Rattle.index.specs.Kept.{before}
+use Rattle.lookup.proofs.Steps.{from, any-stops, any-goes, any-ends}
+use Rattle.lookup.proofs.Views.{told-child}
+use Rattle.lookup.proofs.has_child.Statement.{statement}
+use Rattle.lookup.proofs.has_child.Tie as tie
+
+abbrev Inv-loop : tie.InvT-loop
+Inv-loop board index count parent low high child₀ child =
+    (1 ≤ child) × (child ≤ count + 1)
+    × (any (childOf parent (between low high)) (before board count) ≡ any (childOf parent (between low high)) (from board count child))
+
+abbrev μ-loop : tie.MeasureT-loop
+μ-loop board index count parent low high child₀ child = count + 1 - child
+
+loop-holds : tie.Need-loop-holds Inv-loop μ-loop
+loop-holds c = (search needs, search needs, refl)
+
+entry-requires : tie.Need-entry-requires Inv-loop μ-loop
+entry-requires c κs = search needs
+
+is-child-requires : tie.Need-is-child-requires Inv-loop μ-loop
+is-child-requires c κs = search needs
+
+returns : tie.Need-returns Inv-loop μ-loop
+returns c =
+    let l = c .before .before .before .before in
+    let v = l .loop .inv in
+    let e = c .before .before .entry in
+    sym (v .2 ∙ any-stops _ _ _ (l .loop .child) (v .0) (search needs) _ (told-child (e .ensures) _ _ _ (c .before .is-child .ensures)) (c .if1 .taken))
+
+add-child : tie.Need-add-child Inv-loop μ-loop
+add-child c = search needs
+
+loop-less : tie.Need-loop-less Inv-loop μ-loop
+loop-less c = search needs
+
+loop-again : tie.Need-loop-again Inv-loop μ-loop
+loop-again c =
+    let l = c .before .before .before .before in
+    let v = l .loop .inv in
+    let e = c .before .before .entry in
+    (search needs, search needs, v .2 ∙ any-goes _ _ _ (l .loop .child) (v .0) (search needs) _ (told-child (e .ensures) _ _ _ (c .before .is-child .ensures)) (c .if1 .left))
+
+returns-2 : tie.Need-returns-2 Inv-loop μ-loop
+returns-2 c = let l = c .before in sym (l .loop .inv .2 ∙ any-ends _ _ _ (l .loop .child) (search needs))
+
+pub has-child-spec : {M : Type 1} → statement M
+has-child-spec =
+    tie.close
+    (tie.spec
+    Inv-loop
+    μ-loop
+    loop-holds
+    entry-requires
+    is-child-requires
+    returns
+    add-child
+    loop-less
+    loop-again
+    returns-2)

@@ -1,0 +1,2 @@
+-- What is searched for.
+pub mod Search

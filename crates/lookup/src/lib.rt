@@ -1,0 +1,187 @@
+// Searches among the items that were passed: the parent and the session of an item, the latest session of a voter, the children of an
+// item, a main item by its main number. Each reads the board through the index table.
+ghost use mathlib.Core.Path.{_≡_};
+ghost use mathlib.Core.Bool.{_&&_};
+ghost use Prim.Native.Nat.{_+_, _-_, _≤_};
+ghost use lib.ListN.{length};
+ghost use lib.Dec.{eqb};
+ghost use Rattle.model.specs.Lists.{if_then_else_, part, any};
+ghost use Rattle.model.specs.Words.{mainKind, between};
+ghost use Rattle.model.specs.Codes.{sessionType};
+ghost use Rattle.model.specs.Item.{itemAt};
+ghost use Rattle.model.specs.History.{first, last, parentNumber, sessionNumber};
+ghost use Rattle.model.specs.Phase.{sessionOf};
+ghost use Rattle.model.specs.Only.{childOf};
+ghost use Rattle.format.specs.Base.{base};
+ghost use Rattle.format.specs.Layout.{itemOf};
+ghost use Rattle.index.specs.Kept.{before, Kept};
+ghost use Rattle.index.specs.Known.{IsKnown};
+ghost use Rattle.lookup.specs.Search.{entryFrom, addressed, mainEntry};
+use format::head::Head;
+use format::item::Item;
+use index::Known;
+
+// Whether the item is of a kind, main or hidden, and has the address that stands at a place of the board.
+fn is_addressed(board: &[u32], e: Known, main: bool, at: usize) -> bool
+    requires { ⌜ (IsKnown (now board) (entryFrom (now board) e) e) × (at + 8 ≤ length (now board)) ⌝ }
+    ensures { λ r. ⌜ r ≡ addressed main (part at 8 (now (board .entry))) (entryFrom (now (board .entry)) e) ⌝ }
+{
+    if (e.item.head.kind == Head::MAIN) != main {
+        return false;
+    }
+    words::same_words(board, e.item.address, board, at, Item::ADDRESS)
+}
+
+// The number of the first item, main or hidden, with the address that stands at a place of the board; 0 where there is none.
+pub fn first_addressed(board: &[u32], index: &[u32], count: usize, main: bool, at: usize) -> usize
+    requires { ⌜ (Kept (now board) (now index) count) × (at + 8 ≤ length (now board)) ⌝ }
+    ensures { λ r. ⌜ r ≡ first (addressed main (part at 8 (now (board .entry)))) (before (now (board .entry)) count) ⌝ }
+{
+    let mut number = 1;
+    while number <= count {
+        let e = index::entry(board, index, count, number);
+        if is_addressed(board, e, main, at) {
+            return number;
+        }
+        number += 1;
+    }
+    0
+}
+
+// The number of the parent of the item at a place, after the first count items: its own for genesis, 0 where it is not found.
+pub fn parent_number(board: &[u32], index: &[u32], count: usize, item: Item) -> usize
+    requires { ⌜ Kept (now board) (now index) count ⌝ }
+    requires { ⌜ (item ≡ itemOf (now board) (item .place)) × (item .end ≤ length (now board)) ⌝ }
+    ensures { λ r. ⌜ r ≡ parentNumber (before (now (board .entry)) count) (itemAt base (now (board .entry)) (item .place)) ⌝ }
+{
+    let code = item.head.code;
+    if code == Head::GENESIS {
+        return count + 1;
+    }
+    let main = code <= Head::TRACK;
+    first_addressed(board, index, count, main, item.parent)
+}
+
+// The number of its session, from that of its parent: its own for a session, 0 where it has none.
+pub fn session_number(
+    board: &[u32],
+    index: &[u32],
+    count: usize,
+    item: Item,
+    parent: usize,
+) -> usize
+    requires { ⌜ Kept (now board) (now index) count ⌝ }
+    requires { ⌜ (item ≡ itemOf (now board) (item .place)) × (item .end ≤ length (now board)) ⌝ }
+    requires { ⌜ parent ≡ parentNumber (before (now board) count) (itemAt base (now board) (item .place)) ⌝ }
+    ensures { λ r. ⌜ r ≡ sessionNumber (before (now (board .entry)) count) (itemAt base (now (board .entry)) (item .place)) ⌝ }
+{
+    let code = item.head.code;
+    if code == Head::GENESIS {
+        return 0;
+    }
+    if code == Head::SESSION {
+        return count + 1;
+    }
+    if parent == 0 {
+        return 0;
+    }
+    index::entry(board, index, count, parent).session
+}
+
+// Whether the item is a session of the voter.
+fn is_session_of(board: &[u32], e: Known, voter: u32) -> bool
+    requires { ⌜ IsKnown (now board) (entryFrom (now board) e) e ⌝ }
+    requires { ⌜ (e .item .head .code ≡ sessionType → 1 ≤ e .item .head .count) ⌝ }
+    ensures { λ r. ⌜ r ≡ sessionOf voter (entryFrom (now (board .entry)) e) ⌝ }
+{
+    if e.item.head.code != Head::SESSION {
+        return false;
+    }
+    let at = e.item.content;
+    board[at] == voter
+}
+
+// The number of the latest session of a voter; 0 where there is none.
+pub fn latest_session(board: &[u32], index: &[u32], count: usize, voter: u32) -> usize
+    requires { ⌜ Kept (now board) (now index) count ⌝ }
+    ensures { λ r. ⌜ r ≡ last (sessionOf voter) (before (now (board .entry)) count) ⌝ }
+{
+    let mut k = count;
+    while 0 < k {
+        let e = index::entry(board, index, count, k);
+        if is_session_of(board, e, voter) {
+            return k;
+        }
+        k -= 1;
+    }
+    0
+}
+
+// Whether the item stands under a parent and has a type in a range.
+fn is_child(e: Known, parent: usize, low: u32, high: u32) -> bool
+    ensures { λ r. ⌜ r ≡ (between low high (e .item .head .code) && eqb (e .parent) parent) ⌝ }
+{
+    let code = e.item.head.code;
+    if code < low {
+        return false;
+    }
+    if high < code {
+        return false;
+    }
+    e.parent == parent
+}
+
+// Whether an item with a type in a range stands under a parent.
+pub fn has_child(
+    board: &[u32],
+    index: &[u32],
+    count: usize,
+    parent: usize,
+    low: u32,
+    high: u32,
+) -> bool
+    requires { ⌜ Kept (now board) (now index) count ⌝ }
+    ensures { λ r. ⌜ r ≡ any (childOf parent (between low high)) (before (now (board .entry)) count) ⌝ }
+{
+    let mut child = 1;
+    while child <= count {
+        let e = index::entry(board, index, count, child);
+        if is_child(e, parent, low, high) {
+            return true;
+        }
+        child += 1;
+    }
+    false
+}
+
+// How many main items are left to pass, where the last of them is sought: one less after a main item.
+fn left_after(e: Known, left: usize) -> usize
+    requires { ⌜ 1 ≤ left ⌝ }
+    ensures { λ r. ⌜ r ≡ (if eqb (e .item .head .kind) mainKind then left - 1 else left) ⌝ }
+{
+    if e.item.head.kind == Head::MAIN {
+        return left - 1;
+    }
+    left
+}
+
+// The item number of a main number; 0 where there is none.
+pub fn main_entry(board: &[u32], index: &[u32], count: usize, number: usize) -> usize
+    requires { ⌜ Kept (now board) (now index) count ⌝ }
+    ensures { λ r. ⌜ r ≡ mainEntry (before (now (board .entry)) count) number ⌝ }
+{
+    if number == 0 {
+        return 0;
+    }
+    let mut left = number;
+    let mut k = 1;
+    while k <= count {
+        let e = index::entry(board, index, count, k);
+        left = left_after(e, left);
+        if left == 0 {
+            return k;
+        }
+        k += 1;
+    }
+    0
+}
