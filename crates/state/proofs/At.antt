@@ -125,7 +125,8 @@ module _ {board index : List ℕ} {s : State} {c : Known} (a : AtItem board inde
   unfolding itemAt
   at-listed = rw (a .stands .place) at (a .listed)
 
-  pub at-words : (t low high : ℕ) → T (hasWords t low high) → c .item .head .code ≡ t → (low ≤ c .item .head .count) × (c .item .head .count ≤ high)
+  pub at-words : (t low high : ℕ) → T (hasWords t low high) → c .item .head .code ≡ t
+      → (low ≤ c .item .head .count) × (c .item .head .count ≤ high)
   unfolding itemAt
   at-words t low high b q =
       rw (at-count, ← a .stands .place)
@@ -220,7 +221,8 @@ module _ (board : List ℕ) where
       let h = before board n in
       let e = entryOf h (placeOf base board n) (itemAfter board n) in
       by-test (main e)
-      (λ q. rw (endAddress-snoc h e base, last-snoc main h e, q, eqb·suc-zero (length h)) (ap (λ (x : Entry). x .item .address) (sym (entry-snoc h e))))
+      (λ q. rw (endAddress-snoc h e base, last-snoc main h e, q, eqb·suc-zero (length h))
+      (ap (λ (x : Entry). x .item .address) (sym (entry-snoc h e))))
       (λ q. rw (endAddress-snoc h e base, last-snoc main h e, q) (endAddress-entry n
       ∙ ap (λ (x : Entry). if eqb (last main h) 0 then replicate (base .address) 0 else x .item .address)
       (sym (entry-append h (e ∷ []) (last main h) (last-bound main h)))))

@@ -78,7 +78,8 @@ module _ {board index : List ℕ} {n : ℕ} {c : Known} (p : Passing board index
 
   -- a contest has a number that a set can hold
   pub contest-number : c .item .head .code ≡ contestType
-      → (c .item .content < length board) × (getD board (c .item .content) 0 ≡ word 0 (itemAfter board n)) × (getD board (c .item .content) 0 < 32)
+      → (c .item .content < length board) × (getD board (c .item .content) 0 ≡ word 0 (itemAfter board n))
+      × (getD board (c .item .content) 0 < 32)
   unfolding hasWords contestOk
   contest-number q =
       let (inside, same) = first-word contestType 65 tt q in
@@ -87,7 +88,8 @@ module _ {board index : List ℕ} {n : ℕ} {c : Known} (p : Passing board index
 
   -- a round has a number that the state has a place for
   pub round-number : c .item .head .code ≡ roundType
-      → (c .item .content < length board) × (getD board (c .item .content) 0 ≡ roundNumber (itemAfter board n)) × (getD board (c .item .content) 0 < 16)
+      → (c .item .content < length board) × (getD board (c .item .content) 0 ≡ roundNumber (itemAfter board n))
+      × (getD board (c .item .content) 0 < 16)
   unfolding hasWords roundOk
   round-number q =
       let (inside, same) = first-word roundType 6 tt q in

@@ -87,14 +87,11 @@ module _ (board : List ℕ) (n : ℕ) where
   unfolding history next
   grows = rw add-one
 
-  place-grows : placeOf base board (n + 1) ≡ placeOf base board (suc n)
-  place-grows = rw add-one
-
--- ---- the contests and the rounds
-
--- so many main items
+-- no more main items than items
 pub mains-few : (board : List ℕ) (s : State) → Stands board s → s .mains ≤ s .items
 mains-few board s stands = omega (arith, stands .mains, count-few main (before board (s .items)), length-history base board (s .items))
+
+-- ---- the contests and the rounds
 
 module _ {board index : List ℕ} {n : ℕ} {c : Known} (p : Passing board index n c) where
   pub contests-new : (old : ℕ) → c .item .head .code ≡ contestType
@@ -126,7 +123,8 @@ module _ {board index : List ℕ} {n : ℕ} {c : Known} (p : Passing board index
 
 -- ---- the whole
 
-module _ {board : List ℕ} {s r : State} {c : Known} (stands : Stands board s) (a : Next board (s .items) c) (b : Stepped board s c r) where
+module _ {board : List ℕ} {s r : State} {c : Known}
+    (stands : Stands board s) (a : Next board (s .items) c) (b : Stepped board s c r) where
   pub stands-after : Stands board r
   unfolding next entryOf later earliest contestsAfter slotAfter
   stands-after =
@@ -138,9 +136,12 @@ module _ {board : List ℕ} {s r : State} {c : Known} (stands : Stands board s) 
         mains = b .mains ∙ rw (b .items, grows board n, count-snoc main h (next board n), next-kind a, stands .mains, add-one);
         last = b .last ∙ rw (b .items, grows board n, last-snoc main h (next board n), next-kind a, stands .last, size);
         config = b .config ∙ rw (b .items, grows board n, last-snoc config h (next board n), next-code a, stands .config, size);
-        threshold = b .threshold ∙ rw (b .items, grows board n, first-snoc (typed thresholdType) h (next board n), next-code a, stands .threshold, size);
-        authorizer = b .authorizer ∙ rw (b .items, grows board n, last-snoc (typed authorizerType) h (next board n), next-code a, stands .authorizer, size);
-        intent = b .intent ∙ rw (b .items, grows board n, first-snoc (typed intentType) h (next board n), next-code a, stands .intent, size);
+        threshold = b .threshold
+            ∙ rw (b .items, grows board n, first-snoc (typed thresholdType) h (next board n), next-code a, stands .threshold, size);
+        authorizer = b .authorizer
+            ∙ rw (b .items, grows board n, last-snoc (typed authorizerType) h (next board n), next-code a, stands .authorizer, size);
+        intent = b .intent
+            ∙ rw (b .items, grows board n, first-snoc (typed intentType) h (next board n), next-code a, stands .intent, size);
         contests = b .contests ∙ rw (b .items, grows board n, definedSet-snoc h (next board n), stands .contests);
         rounds = λ j l. b .rounds j l ∙ rw (b .items, grows board n, roundAt-snoc h (next board n) j, stands .rounds j l, size, add-one);
         ballots = b .ballots ∙ rw (b .items);

@@ -1,0 +1,15 @@
+-- `is_between` meets its contract. Assumes nothing.
+use borrow.Author.Tests.{le-leb, lt-leb}
+use Rattle.phases.proofs.is_between.Statement.{statement}
+use Rattle.phases.proofs.is_between.Tie as tie
+
+ruleset tests = (le-leb, lt-leb)
+
+returns : tie.Need-returns
+returns c = search tests
+
+returns-2 : tie.Need-returns-2
+returns-2 c = search tests
+
+pub is-between-spec : {M : Type 1} → statement M
+is-between-spec = tie.close (tie.spec returns returns-2)

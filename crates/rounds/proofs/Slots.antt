@@ -1,0 +1,96 @@
+-- The sixteen slots of the state: each holds the round in force with its number, so a loop over them asks every round in force.
+-- Assumes nothing.
+use Prim.Native.Nat.{ℕ, _+_, _≤_, _<_}
+use native.Mathlib.Omega.{arith}
+use mathlib.Core.Path.{_≡_, refl, _∙_}
+use mathlib.Core.Bool.{Bool, true, false}
+use mathlib.Core.List.{List}
+use lib.Bits.{bitOr}
+use lib.ListN.{getD}
+use lib.Dec.{T, eqb, eqb→eq}
+use borrow.Author.Tests.{ne-eqb}
+use Rattle.model.specs.Lists.{any}
+use Rattle.model.specs.Codes.{roundType}
+use Rattle.model.specs.Item.{code}
+use Rattle.model.specs.History.{History, entry, itemNo, typed}
+use Rattle.model.specs.Phase.{rounds, isOpen, roundNumber}
+use Rattle.model.proofs.Tests.{and-iff}
+use Rattle.model.proofs.Lists.{every}
+use Rattle.model.proofs.Numbers.{last-found}
+use Rattle.model.proofs.State.{any-last}
+use Rattle.model.proofs.Rounds.{anyBelow, unionBelow, anyBelow-none, anyBelow-found, unionBelow-next, numbered, roundAt, roundAt-bound, openContests, enabledSet, any-rounds, rounds-small}
+use Rattle.index.specs.Kept.{before, Kept}
+use Rattle.state.specs.declared.State.{State}
+use Rattle.state.specs.Stands.{Stands}
+use Rattle.rounds.specs.Open.{InForce, openUnder, contestsUnder}
+
+-- the round in force with the number j is a round
+pub force-at : (h : History) (j : ℕ) → InForce h (roundAt h j)
+force-at h j =
+    let k = roundAt h j in
+    record {
+      bound = roundAt-bound h j;
+      round = λ l.
+          let some : T (any (numbered j) h) = rw (any-last (numbered j) h, ne-eqb k 0 (λ q. omega arith)) tt in
+          let found = last-found (numbered j) (λ e. Unit) h (every (λ e. Unit) (λ e. tt) h) some .0 in
+          eqb→eq (code (itemNo h k)) roundType (and-iff (typed roundType (entry h k)) (eqb (roundNumber (itemNo h k)) j) .0 found .0);
+    }
+
+-- whether one of the slots below j holds a round that is open at the time t
+abbrev pub openBelow : ℕ → History → ℕ → Bool
+openBelow t h j = anyBelow j (λ i. openUnder t h (roundAt h i))
+
+pub openBelow-none : (t : ℕ) (h : History) → openBelow t h 0 ≡ false
+unfolding anyBelow
+openBelow-none t h = refl
+
+-- the contests of those that do
+abbrev pub contestsBelow : ℕ → History → ℕ → ℕ
+contestsBelow t h j = unionBelow j (openContests t h)
+
+pub contestsBelow-none : (t : ℕ) (h : History) → contestsBelow t h 0 ≡ 0
+unfolding unionBelow
+contestsBelow-none t h = refl
+
+contests-slot : (t : ℕ) (h : History) (j : ℕ) → openContests t h j ≡ contestsUnder t h (roundAt h j)
+unfolding openContests contestsUnder openUnder
+contests-slot t h j = refl
+
+pub contestsBelow-all : (t : ℕ) (h : History) (j : ℕ) → j ≤ 16 → 16 ≤ j → contestsBelow t h j ≡ enabledSet t h
+unfolding enabledSet
+contestsBelow-all t h j l m = let all : j ≡ 16 = omega arith in rw all
+
+openBelow-rounds : {board index : List ℕ} {n : ℕ} → Kept board index n → (t : ℕ)
+    → any (isOpen t) (rounds (before board n)) ≡ openBelow t (before board n) 16
+unfolding openUnder
+openBelow-rounds {board} {index} {n} kept t = any-rounds (isOpen t) (before board n) (rounds-small (kept .passed))
+
+-- ---- a turn of the loop: slot j holds the item number k
+
+module _ {board index : List ℕ} {s : State} (kept : Kept board index (s .items)) (a : Stands board s)
+    (j k : ℕ) (l : j < 16) (is : k ≡ getD (s .rounds) j 0) where
+  abbrev h : History
+  h = before board (s .items)
+
+  slot : k ≡ roundAt h j
+  slot = is ∙ a .rounds j l
+
+  pub force-in : InForce h k
+  force-in = rw slot (force-at h j)
+
+  module _ (t : ℕ) where
+    pub open-found : openUnder t h k ≡ true → any (isOpen t) (rounds h) ≡ true
+    open-found q = openBelow-rounds kept t ∙ anyBelow-found (λ i. openUnder t h (roundAt h i)) 16 j l (rw slot at q)
+
+    pub open-next : openBelow t h j ≡ false → openUnder t h k ≡ false
+        → openBelow t h (j + 1) ≡ false
+    open-next none q = anyBelow-none (λ i. openUnder t h (roundAt h i)) j none (rw slot at q)
+
+    pub contests-next : (old new : ℕ) → old ≡ contestsBelow t h j → new ≡ contestsUnder t h k
+        → bitOr old new ≡ contestsBelow t h (j + 1)
+    contests-next old new p q = rw (unionBelow-next (openContests t h) j, contests-slot t h j, ← slot, p, q)
+
+-- after the last
+pub open-none : {board index : List ℕ} {n : ℕ} → Kept board index n → (t j : ℕ) → j ≤ 16 → 16 ≤ j → openBelow t (before board n) j ≡ false
+    → any (isOpen t) (rounds (before board n)) ≡ false
+open-none kept t j l m q = let all : j ≡ 16 = omega arith in openBelow-rounds kept t ∙ (rw all at q)

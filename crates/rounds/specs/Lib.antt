@@ -1,0 +1,2 @@
+-- The round that is in force under an item number.
+pub mod Open
