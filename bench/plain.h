@@ -1,0 +1,9 @@
+#ifndef PLAIN_H
+#define PLAIN_H
+
+#include <stddef.h>
+#include <stdint.h>
+
+void plain_sha256_words(const uint32_t *words, size_t count, uint32_t digest[8]);
+
+#endif

@@ -1,0 +1,2 @@
+-- What the checks read, and what the model asks.
+pub mod Checks

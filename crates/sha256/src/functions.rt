@@ -1,0 +1,54 @@
+// The functions of FIPS 180-4, 3.2 and 4.1.2, on words of 32 bits.
+ghost use mathlib.Core.Path.{_≡_};
+ghost use Prim.Native.Nat.{_<_};
+ghost use Rattle.sha256.specs.Fips as fips;
+
+// The sum modulo 2 ^ 32.
+pub fn add(x: u32, y: u32) -> u32
+    ensures { λ r. ⌜ r ≡ fips._⊞_ x y ⌝ }
+{
+    std::num::wrapping_add_u32(x, y)
+}
+
+pub fn rotr(x: u32, n: u32) -> u32
+    requires { ⌜ (0 < n) × (n < 32) ⌝ }
+    ensures { λ r. ⌜ r ≡ fips.rotr n x ⌝ }
+{
+    (x >> n) | (x << (32 - n))
+}
+
+pub fn ch(x: u32, y: u32, z: u32) -> u32
+    ensures { λ r. ⌜ r ≡ fips.ch x y z ⌝ }
+{
+    (x & y) ^ (!x & z)
+}
+
+pub fn maj(x: u32, y: u32, z: u32) -> u32
+    ensures { λ r. ⌜ r ≡ fips.maj x y z ⌝ }
+{
+    (x & y) ^ (x & z) ^ (y & z)
+}
+
+pub fn big_sigma0(x: u32) -> u32
+    ensures { λ r. ⌜ r ≡ fips.bigSigma0 x ⌝ }
+{
+    rotr(x, 2) ^ rotr(x, 13) ^ rotr(x, 22)
+}
+
+pub fn big_sigma1(x: u32) -> u32
+    ensures { λ r. ⌜ r ≡ fips.bigSigma1 x ⌝ }
+{
+    rotr(x, 6) ^ rotr(x, 11) ^ rotr(x, 25)
+}
+
+pub fn small_sigma0(x: u32) -> u32
+    ensures { λ r. ⌜ r ≡ fips.smallSigma0 x ⌝ }
+{
+    rotr(x, 7) ^ rotr(x, 18) ^ (x >> 3)
+}
+
+pub fn small_sigma1(x: u32) -> u32
+    ensures { λ r. ⌜ r ≡ fips.smallSigma1 x ⌝ }
+{
+    rotr(x, 17) ^ rotr(x, 19) ^ (x >> 10)
+}

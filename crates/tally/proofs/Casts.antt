@@ -1,0 +1,181 @@
+-- What one more item that passes makes of the counted ballots, and where a cast's row is read from. Assumes nothing.
+use Prim.Native.Nat.{ℕ, zero, suc, _+_, _-_, _*_, _≤_, _<_}
+use native.Mathlib.Numerals.{add-one}
+use native.Mathlib.Omega.{arith}
+use mathlib.Core.Path.{_≡_, sym, ap, _∙_}
+use mathlib.Core.Bool.{false, not}
+use mathlib.Core.List.{List, [], _∷_, _++_}
+use lib.ListN.{length, getD, take}
+use lib.Seq.{sets, length-sets, length-take-le, take-suc}
+use lib.Dec.{T, eqb, eqb→eq}
+use borrow.Author.Tests.{ne-eqb, le-leb}
+use Rattle.model.specs.Lists.{count}
+use Rattle.model.specs.Item.{code, isMain, word}
+use Rattle.model.specs.Types.{inSession}
+use Rattle.model.specs.History.{History, Entry, entry, itemNo, absent, main, mainNumber, typed, placeOf, history, entryOf, parentNumber, sessionNumber}
+use Rattle.model.specs.Counted.{Vote, voteOf, counted, without}
+use Rattle.model.specs.Audit.{indexRow, ballotRow, itemLimit}
+use Rattle.model.proofs.Tests.{passes, is-true}
+use Rattle.model.proofs.Table.{main-code}
+use Rattle.model.proofs.Lists.{count-append, count-take, count-few, count-keep}
+use Rattle.model.proofs.Entries.{orderly, fine-parent, parent-some, parent-main, parent-bound, parent-session, session-up}
+use Rattle.model.proofs.Growth.{counted-other, counted-cast}
+use Rattle.model.proofs.Unchecked.{length-history}
+use Rattle.model.proofs.Votes.{counted-few}
+use Rattle.format.specs.Base.{base}
+use Rattle.index.specs.declared.Known.{Known}
+use Rattle.index.specs.Kept.{before, itemAfter, Kept}
+use Rattle.index.specs.Known.{IsKnown, Passing}
+use Rattle.index.proofs.Counts.{hasWords, entry-words}
+use Rattle.index.proofs.Rows.{row-mains}
+use Rattle.index.proofs.Reading.{known-item, known-word}
+use Rattle.state.specs.declared.State.{State}
+use Rattle.state.specs.Stands.{Stands}
+use Rattle.state.proofs.Next.{passing-next, next-code, next-parent, next-session}
+use Rattle.tally.specs.Rows.{HoldsRows}
+use Rattle.tally.specs.Tallied.{Tallied}
+use Rattle.tally.proofs.Table.{holds-put}
+
+-- ---- main numbers
+
+mainNumber-suc : (h : History) (k : ℕ) → k < length h → T (main (getD h k absent)) → mainNumber h (suc k) ≡ mainNumber h k + 1
+unfolding count
+mainNumber-suc h k l t = rw (take-suc h k absent l, count-append main (take k h) (getD h k absent ∷ []), is-true (main (getD h k absent)) t)
+
+-- the last word of row k of the index table: the main items before item k
+pub number-is : {board index : List ℕ} {n : ℕ} → Kept board index n → (k : ℕ) → 1 ≤ k → k ≤ n → T (main (entry (before board n) k))
+    → getD index (indexRow * (k - 1) + 3) 0 + 1 ≡ mainNumber (before board n) k
+unfolding entry
+number-is kept zero s l t = absurd (omega arith)
+number-is {board} {index} {n} kept (suc k) s l t =
+    let same : suc k - 1 ≡ k = omega arith in
+    let word = row-mains kept (suc k) s l in
+    let more = mainNumber-suc (before board n) k (omega (arith, length-history base board n)) t in
+    rw (word, same) (sym more)
+
+pub number-small : {board index : List ℕ} {n : ℕ} → Kept board index n → (k : ℕ) → 1 ≤ k → k ≤ n
+    → getD index (indexRow * (k - 1) + 3) 0 ≤ itemLimit
+number-small {board} {index} {n} kept k s l =
+    let h = before board n in
+    rw (row-mains kept k s l)
+    (omega (arith, count-take main h (k - 1), count-few main h, length-history base board n, kept .few))
+
+-- ---- one more item
+
+module _ {board index : List ℕ} {n : ℕ} {c : Known} (p : Passing board index n c) where
+  abbrev new : Entry
+  new = entryOf (before board n) (length (take (placeOf base board n) board)) (itemAfter board n)
+
+  -- the vote of a cast
+  pub vote : Vote
+  vote = voteOf (before board n) new
+
+  longer : before board (n + 1) ≡ before board n ++ (new ∷ [])
+  unfolding history
+  longer = rw (add-one n, length-take-le (placeOf base board n) board (p .kept .within))
+
+  pub counted-same : (c .item .head .code ≡ 20 → ⊥) → counted (before board (n + 1)) ≡ counted (before board n)
+  counted-same q = rw longer (counted-other (p .kept .passed) (p .meets) (λ e. q (next-code (passing-next p) ∙ e)))
+
+  module _ (cast : c .item .head .code ≡ 20) where
+    is-cast : code (itemAfter board n) ≡ 20
+    is-cast = sym (next-code (passing-next p)) ∙ cast
+
+    pub counted-more : counted (before board (n + 1)) ≡ without (vote .voter) (counted (before board n)) ++ (vote ∷ [])
+    unfolding vote
+    counted-more = rw longer (counted-cast (p .kept .passed) (p .meets) is-cast)
+
+    later : eqb (code (itemAfter board n)) 1 ≡ false
+    later = ne-eqb (code (itemAfter board n)) 1 (λ e. omega (arith, is-cast))
+
+    other : eqb (code (itemAfter board n)) 16 ≡ false
+    other = ne-eqb (code (itemAfter board n)) 16 (λ e. omega (arith, is-cast))
+
+    -- its ballot is a main item before it
+    pub ballot-in : (1 ≤ c .parent) × (c .parent ≤ n) × T (main (entry (before board n) (c .parent)))
+    ballot-in =
+        let i = itemAfter board n in
+        let main-is : T (isMain i) = passes (main-code (p .meets .listed) ∙ le-leb (code i) 34 (omega (arith, is-cast))) in
+        rw (next-parent (passing-next p)) (
+          parent-some (p .meets),
+          omega (arith, parent-bound (before board n) i later, length-history base board n),
+          parent-main (p .meets) later main-is,
+        )
+
+    -- so is its session
+    session-is : sessionNumber (before board n) (itemAfter board n) ≡ entry (before board n) (parentNumber (before board n) (itemAfter board n)) .session
+    session-is = session-up (before board n) (itemAfter board n) later other
+
+    pub session-in : (1 ≤ c .session) × (c .session ≤ n) × T (typed 16 (entry (before board n) (c .session)))
+    unfolding inSession
+    session-in =
+        let o = orderly (p .kept .passed) in
+        let a = fine-parent (p .meets) o later in
+        let some = parent-session (p .meets) o (rw is-cast tt) later other in
+        rw (next-session (passing-next p), session-is) (some, omega (arith, a .session-in, length-history base board n), a .session-typed some)
+
+    -- the words that its row is made of
+    module _ (e : Known) (k : IsKnown board (entry (before board n) (c .session)) e) where
+      pub session-words : 19 ≤ e .item .head .count
+      unfolding hasWords
+      session-words =
+          let (s, l, t) = session-in in
+          rw (known-item k) (entry-words (p .kept) (c .session) s l 16 19 19 tt (eqb→eq _ _ t) .0)
+
+      pub voter-is : getD board (e .item .content) 0 ≡ vote .voter
+      unfolding vote voteOf entryOf
+      voter-is =
+          let none : e .item .content + 0 ≡ e .item .content = omega arith in
+          rw none at (known-word k 0 (omega (arith, session-words))) ∙ ap (λ (m : ℕ). word 0 (itemNo (before board n) m)) (next-session (passing-next p))
+
+      pub weight-is : getD board (e .item .content + 1) 0 ≡ vote .weight
+      unfolding vote voteOf entryOf
+      weight-is = known-word k 1 (omega (arith, session-words)) ∙ ap (λ (m : ℕ). word 1 (itemNo (before board n) m)) (next-session (passing-next p))
+
+    pub ballot-is : mainNumber (before board n) (c .parent) ≡ vote .ballot
+    unfolding vote voteOf entryOf
+    ballot-is = ap (mainNumber (before board n)) (next-parent (passing-next p))
+
+-- ---- the table after it
+
+module _ {board index ballots : List ℕ} {s : State} {c : Known} (p : Passing board index (s .items) c) (stands : Stands board s)
+    (t : Tallied board ballots (s .items)) where
+  pub holds : HoldsRows ballots (s .ballots) (counted (before board (s .items)))
+  holds = record { rows = t .rows; number = stands .ballots }
+
+  few : length (counted (before board (s .items))) ≤ s .items
+  few = omega (arith, counted-few (before board (s .items)), length-history base board (s .items))
+
+  pub rows-fit : ballotRow * s .ballots ≤ length ballots
+  rows-fit = omega (arith, few, stands .ballots, p .more, t .room)
+
+  pub after-same : (c .item .head .code ≡ 20 → ⊥)
+      → Tallied board ballots (s .items + 1) × (s .ballots ≡ length (counted (before board (s .items + 1))))
+  after-same q = (record { rows = rw (counted-same p q) (t .rows); room = t .room }, rw (counted-same p q) (stands .ballots))
+
+  module _ (v r : ℕ) (l : List ℕ) (size : length l ≡ length ballots) (kept : HoldsRows l r (without v (counted (before board (s .items))))) where
+    pub rows-few : r < itemLimit
+    rows-few =
+        omega (
+          arith,
+          kept .number,
+          few,
+          p .more,
+          count-keep (λ x. not (eqb (x .voter) v)) (λ x. x) (counted (before board (s .items))),
+          count-few (λ x. not (eqb (x .voter) v)) (counted (before board (s .items))),
+        )
+
+    pub row-fits : ballotRow * r + ballotRow ≤ length l
+    row-fits = omega (arith, rows-few, t .room)
+
+    pub after-cast : (cast : c .item .head .code ≡ 20) → v ≡ vote p .voter → (ballot weight : ℕ) (next : List ℕ)
+        → ballot ≡ vote p .ballot → weight ≡ vote p .weight → next ≡ sets l (ballotRow * r) (ballot ∷ v ∷ weight ∷ [])
+        → Tallied board next (s .items + 1) × (r + 1 ≡ length (counted (before board (s .items + 1))))
+    after-cast cast voter ballot weight next b w e =
+        let put = holds-put l r (without v (counted (before board (s .items)))) (vote p) kept row-fits in
+        let same : next ≡ sets l (ballotRow * r) (vote p .ballot ∷ vote p .voter ∷ vote p .weight ∷ []) = e ∙ rw (b, voter, w) in
+        let counted-is : counted (before board (s .items + 1)) ≡ without v (counted (before board (s .items))) ++ (vote p ∷ []) =
+        counted-more p cast ∙ rw (← voter) in (
+          record { rows = rw (counted-is, same) (put .rows); room = rw (same, length-sets l (ballotRow * r) _) (omega (arith, t .room)) },
+          rw counted-is (put .number),
+        )

@@ -1,0 +1,4 @@
+-- Laws of the ballot table.
+pub mod Table
+pub mod Casts
+pub mod Message
