@@ -1,0 +1,23 @@
+// The ranges of content words. Paper: "Item types", "Content".
+pub struct Range {}
+
+impl Range {
+    // The last number of a contest.
+    pub const CONTEST: u32 = 31;
+
+    // The most trustees.
+    pub const TRUSTEES: u32 = 32;
+
+    // The modes of an authorizer.
+    pub const IDENTITY: u32 = 1;
+
+    pub const CREDENTIAL: u32 = 2;
+
+    // The last number of a round.
+    pub const ROUND: u32 = 15;
+
+    // The low 24 bits of a commitment's ninth word are zero, and the low 16 bits of a cryptogram's 17th: these are the powers of 2.
+    pub const COMMITMENT: u32 = 0x0100_0000;
+
+    pub const CRYPTOGRAM: u32 = 0x0001_0000;
+}

@@ -1,0 +1,2 @@
+-- Laws of verdicts and of the keys under which they are given.
+pub mod Keys
