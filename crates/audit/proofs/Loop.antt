@@ -1,0 +1,170 @@
+-- The loop over the items: what holds at its head, how it stops, and how it goes on. Assumes nothing.
+use Prim.Native.Nat.{ℕ, _-_, _*_, _≤_, _<_, zero-le}
+use native.Mathlib.Omega.{arith}
+use native.Mathlib.Numerals.{add-one}
+use mathlib.Core.Path.{_≡_, refl, sym, ap, _∙_}
+use mathlib.Core.Bool.{true, not}
+use mathlib.Core.List.{List, []}
+use lib.ListN.{length, getD}
+use lib.Dec.{T, eqb, ltb}
+use borrow.Author.Tests.{eq-eqb, ne-eqb}
+use Rattle.model.specs.Lists.{keep, latest}
+use Rattle.model.specs.Words.{kindOf, isClosing}
+use Rattle.model.specs.Refusal.{noFault, tooLarge, truncated}
+use Rattle.model.specs.History.{placeOf, history}
+use Rattle.model.specs.Counted.{counted}
+use Rattle.model.specs.Audit.{Outcome, refused, closing, closingOk, items, itemLimit, ballotRow, isEmpty}
+use Rattle.model.specs.Report.{reportOf, indexRows, ballotRows, filled}
+use Rattle.model.specs.Sound.{Passed}
+use Rattle.model.proofs.Tests.{eq→eqb, ne→neqb, by-if}
+use Rattle.model.proofs.Steps.{itemsFrom, items-start, items-ended, items-closing, items-full, items-refused, items-passed}
+use Rattle.model.proofs.Unchecked.{length-history}
+use Rattle.refusal.specs.Number.{numberOf, foundOf}
+use Rattle.refusal.specs.declared.Refusal.{Refusal}
+use Rattle.refusal.specs.declared.Finding.the-variants.{Passes, Fails}
+use Rattle.format.specs.Base.{base}
+use Rattle.format.specs.Layout.{headOf}
+use Rattle.format.specs.declared.head.Head.{Head}
+use Rattle.index.specs.Kept.{before, Kept}
+use Rattle.state.specs.Stands.{Stands}
+use Rattle.state.specs.declared.State.{State}
+use Rattle.tally.specs.Tallied.{Tallied}
+use Rattle.judge.proofs.First.{number-some}
+use Rattle.audit.specs.declared.report.Report.{Report}
+use Rattle.audit.specs.declared.step.Step.{Step}
+use Rattle.audit.specs.Reported.{reported}
+use Rattle.audit.specs.Steps.{Sized, Zeros, Reached, Stepped, Holds}
+
+-- ---- 3
+
+module _ (board : List ℕ) where
+  pub empty-none : length board ≡ 0 → true ≡ isEmpty board
+  empty-none q = rw (eq-eqb _ _ q)
+
+  pub empty-first : (length board ≡ 0 → ⊥) → (head : Head) → head ≡ headOf (getD board 0 0) → eqb (head .kind) 15 ≡ isEmpty board
+  empty-first q head is = rw (ne-eqb _ _ q, is)
+
+-- ---- before the first item
+
+filled-none : (table : List ℕ) → Zeros table → table ≡ filled (length table) []
+unfolding filled
+filled-none table zeros = let all : length table - 0 ≡ length table = omega arith in rw all zeros
+
+module _ {board index ballots : List ℕ} (sized : Sized board index ballots) where
+  kept-none : Zeros index → Kept board index 0
+  unfolding history placeOf indexRows
+  kept-none zeros = record {
+    rows = filled-none index zeros;
+    verdicts = [];
+    passed = Passed.none;
+    within = zero-le;
+    few = zero-le;
+    words = sized .fewWords;
+    room = sized .wide;
+  }
+
+  tallied-none : Zeros ballots → Tallied board ballots 0
+  unfolding history counted keep latest ballotRows
+  tallied-none zeros = record { rows = filled-none ballots zeros; room = sized .roomy }
+
+-- ---- at the head of the loop
+
+module _ (board verdicts : List ℕ) where
+  -- the answer, with so many words in the ballot table
+  abbrev pub answer : ℕ → Outcome
+  answer room = items base board verdicts room itemLimit [] 0
+
+  -- the audit stands behind the first s .items items, the answer is the same from there on, and the tables keep their lengths
+  pub record Going (index₀ ballots₀ index ballots : List ℕ) (s : State) : Type 0 where
+    pub reached : Reached board index ballots s
+    pub same : answer (length ballots₀) ≡ itemsFrom base board verdicts (length ballots₀) (s .items)
+    pub index-size : length index ≡ length index₀
+    pub ballots-size : length ballots ≡ length ballots₀
+
+  pub going-start : {index ballots : List ℕ} {s : State} → Sized board index ballots → Zeros index → Zeros ballots → s .items ≡ 0
+      → Stands board s → Going index ballots index ballots s
+  going-start {index} {ballots} {s} sized zi zb none stands = record {
+    reached = record { kept = rw none (kept-none sized zi); stands = stands; tallied = rw none (tallied-none sized zb) };
+    same = rw none (items-start base board verdicts (length ballots));
+    index-size = refl;
+    ballots-size = refl;
+  }
+
+  -- the tables at the closing word
+  closing-holds : (index ballots : List ℕ) (n p room : ℕ) → Kept board index n → Tallied board ballots n
+      → Holds board (closing base board verdicts room (before board n) p) index ballots
+  unfolding closing
+  closing-holds index ballots n p room kept tallied =
+      let Goal : Outcome → Type 0 = λ o. Holds board o index ballots in
+      let held : Kept board index (length (before board n)) × Tallied board ballots (length (before board n)) =
+      rw (length-history base board n) (kept, tallied) in
+      by-if Goal (not (closingOk board verdicts (before board n) p)) _ _ (λ t. held)
+      λ t. by-if Goal (ltb room (ballotRow * length (counted (before board n)))) _ _ (λ u. held) (λ u. held)
+
+  module _ {index₀ ballots₀ index ballots : List ℕ} {s : State} (g : Going index₀ ballots₀ index ballots s) where
+    abbrev room : ℕ
+    room = length ballots₀
+
+    -- what `run` ensures
+    abbrev Ran : Report → List ℕ → List ℕ → Type 0
+    Ran r i b = (reported r ≡ reportOf base (answer room)) × Holds board (answer room) i b
+
+    stopped : (o : Outcome) → itemsFrom base board verdicts room (s .items) ≡ o → (r : Report) → reported r ≡ reportOf base o
+        → (i b : List ℕ) → Holds board o i b → Ran r i b
+    stopped o e r told i b held =
+        let all : answer room ≡ o = g .same ∙ e in
+        rw all (told, held)
+
+    holds-here : (n : ℕ) → Holds board (refused n (s .items)) index ballots
+    holds-here n = (g .reached .kept, g .reached .tallied)
+
+    place-is : s .place ≡ placeOf base board (s .items)
+    place-is = g .reached .stands .place
+
+    pub stop-ended : length board ≤ s .place → (r : Report) → reported r ≡ reportOf base (refused truncated (s .items)) → Ran r index ballots
+    stop-ended l r told =
+        stopped _ (items-ended base board verdicts room (s .items) (rw place-is at l)) r told index ballots (holds-here truncated)
+
+    module _ (there : s .place < length board) {head : Head} (is : head ≡ headOf (getD board (s .place) 0)) where
+      kind-is : head .kind ≡ kindOf (getD board (placeOf base board (s .items)) 0)
+      kind-is = ap (λ (h : Head). h .kind) is ∙ rw place-is
+
+      pub stop-closing : head .kind ≡ 15 → (r : Report)
+          → reported r ≡ reportOf base (closing base board verdicts (length ballots) (before board (s .items)) (s .place)) → Ran r index ballots
+      stop-closing k r told =
+          stopped _ (items-closing base board verdicts room (s .items) (rw place-is at there) (eq→eqb _ _ (sym kind-is ∙ k))) r (rw (place-is, g .ballots-size) at told) index ballots
+          (closing-holds index ballots (s .items) _ room (g .reached .kept) (g .reached .tallied))
+
+      module _ (head-word : head .kind ≡ 15 → ⊥) where
+        item-word : T (not (isClosing (getD board (placeOf base board (s .items)) 0)))
+        item-word = ne→neqb _ _ (λ q. head-word (kind-is ∙ q))
+
+        pub stop-full : s .items ≡ 2048 → (r : Report) → reported r ≡ reportOf base (refused tooLarge (s .items)) → Ran r index ballots
+        stop-full q r told =
+            stopped _ (items-full base board verdicts room (s .items) (rw place-is at there) item-word (omega arith)) r told index ballots (holds-here tooLarge)
+
+        module _ (few : s .items < itemLimit) {index′ ballots′ : List ℕ} {step : Step}
+            (stepped : Stepped board verdicts index ballots index′ ballots′ s step) where
+          pub stop-refused : (x : Refusal) → step .finding ≡ Fails x → (r : Report) → reported r ≡ reportOf base (refused (numberOf x) (s .items))
+              → Ran r index′ ballots′
+          stop-refused x q r told =
+              let number : foundOf (step .finding) ≡ numberOf x = ap foundOf q in
+              let fails : numberOf x ≡ noFault → ⊥ = λ n. absurd (omega (arith, number-some x)) in
+              let (stay, same-index, same-ballots) = stepped .failed (λ n. fails (sym number ∙ n)) in
+              rw (same-index, same-ballots)
+              (stopped _ (items-refused base board verdicts room (s .items) (rw place-is at there) item-word few (numberOf x) (rw place-is at (sym (stepped .finding) ∙ number)) fails)
+              r told index ballots (holds-here (numberOf x)))
+
+          pub going-on : step .finding ≡ Passes → length index′ ≡ length index → length ballots′ ≡ length ballots → Going index₀ ballots₀ index′ ballots′ (step .state)
+          going-on q li lb =
+              let none : foundOf (step .finding) ≡ noFault = ap foundOf q in
+              let (next, reached) = stepped .passed none in
+              record {
+                reached = reached;
+                same = g .same ∙ items-passed base board verdicts room (s .items) (rw place-is at there) item-word few (rw place-is at (sym (stepped .finding) ∙ none)) ∙ rw (next, add-one);
+                index-size = li ∙ g .index-size;
+                ballots-size = lb ∙ g .ballots-size;
+              }
+
+          pub going-less : step .finding ≡ Passes → itemLimit - step .state .items < itemLimit - s .items
+          going-less q = let next = stepped .passed (ap foundOf q) .0 in omega arith

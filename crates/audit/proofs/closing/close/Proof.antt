@@ -1,0 +1,69 @@
+-- `close` meets its contract. Assumes nothing.
+use native.Mathlib.Omega.{arith}
+use mathlib.Core.Path.{sym, ap, _∙_}
+use lib.ListN.{length}
+use Rattle.model.specs.Report.{reportOf}
+use Rattle.format.specs.Base.{base}
+use Rattle.state.proofs.Step.{mains-few}
+use Rattle.judge.proofs.First.{met, unmet}
+use Rattle.audit.proofs.Close.{close-bad, close-full, close-good, ballots-few, holds-rows, accepted-report}
+use Rattle.audit.proofs.closing.close.Statement.{statement}
+use Rattle.audit.proofs.closing.close.Tie as tie
+
+is-closed-requires : tie.Need-is-closed-requires
+is-closed-requires c κs = let reached = c .before .before .before .before .pre .0 in (reached .kept, reached .stands, c .before .before .before .before .pre .1)
+
+refused-requires : tie.Need-refused-requires
+refused-requires c κs = c .before .before .before .before .before .before .pre .0 .kept .few
+
+returns : tie.Need-returns
+returns c = c .refused .ensures ∙ ap (reportOf base) (sym (close-bad (c .before .before .before .before .before .before .before .args .board .now) (c .before .before .before .before .before .before .before .args .verdicts .now) (length (c .before .before .before .before .before .before .before .args .ballots .now)) (c .before .before .before .before .before .before .before .args .s) (unmet (c .before .before .is-closed .ensures) (c .before .if1 .taken))))
+
+mul-if2 : tie.Need-mul-if2
+mul-if2 c = let few = c .before .before .before .before .before .before .before .pre .0 .kept .few in omega (arith, ballots-few (c .before .before .before .before .before .before .before .pre .0))
+
+refused-requires-2 : tie.Need-refused-requires-2
+refused-requires-2 c κs = c .before .before .before .before .before .before .before .before .pre .0 .kept .few
+
+returns-2 : tie.Need-returns-2
+returns-2 c =
+    c .refused2 .ensures
+    ∙ ap (reportOf base) (sym (close-full (c .before .before .before .before .before .before .before .before .before .args .board .now) (c .before .before .before .before .before .before .before .before .before .args .verdicts .now) (length (c .before .before .before .before .before .before .before .before .before .args .ballots .now)) (c .before .before .before .before .before .before .before .before .before .args .s) (met (c .before .before .before .before .is-closed .ensures) (c .before .before .before .if1 .left)) (c .before .before .before .before .before .before .before .before .before .pre .0 .stands) (c .before .if2 .taken)))
+
+total-weight-requires : tie.Need-total-weight-requires
+total-weight-requires c κs = let few = c .before .before .before .before .before .before .before .before .pre .0 .kept .few in (c .if2 .left, omega (arith, ballots-few (c .before .before .before .before .before .before .before .before .pre .0)))
+
+end-address-requires : tie.Need-end-address-requires
+end-address-requires c κs = (c .before .before .before .before .before .before .before .before .before .pre .0 .kept, c .before .before .before .before .before .before .before .before .before .pre .0 .stands)
+
+cast-t14 : tie.Need-cast-t14
+cast-t14 c = let few = c .before .before .before .before .before .before .before .before .before .before .before .pre .0 .kept .few in omega arith
+
+cast-t15 : tie.Need-cast-t15
+cast-t15 c = let few = c .before .before .before .before .before .before .before .before .before .before .before .before .pre .0 .kept .few in omega (arith, mains-few (c .before .before .before .before .before .before .before .before .before .before .before .before .args .board .now) (c .before .before .before .before .before .before .before .before .before .before .before .before .args .s) (c .before .before .before .before .before .before .before .before .before .before .before .before .pre .0 .stands))
+
+cast-t16 : tie.Need-cast-t16
+cast-t16 c = let few = c .before .before .before .before .before .before .before .before .before .before .before .before .before .pre .0 .kept .few in omega (arith, ballots-few (c .before .before .before .before .before .before .before .before .before .before .before .before .before .pre .0))
+
+returns-3 : tie.Need-returns-3
+returns-3 c =
+    let reached = c .before .before .before .before .before .before .before .before .before .before .before .before .before .pre .0 in
+    accepted-report reached _ _ (c .before .before .before .before .total-weight .ensures _ (holds-rows reached)) (c .before .before .before .end-address .ensures)
+    ∙ ap (reportOf base) (sym (close-good (c .before .before .before .before .before .before .before .before .before .before .before .before .before .args .board .now) (c .before .before .before .before .before .before .before .before .before .before .before .before .before .args .verdicts .now) (length (c .before .before .before .before .before .before .before .before .before .before .before .before .before .args .ballots .now)) (c .before .before .before .before .before .before .before .before .before .before .before .before .before .args .s) (met (c .before .before .before .before .before .before .before .before .is-closed .ensures) (c .before .before .before .before .before .before .before .if1 .left)) (reached .stands) (c .before .before .before .before .before .if2 .left)))
+
+pub close-spec : {M : Type 1} → statement M
+close-spec =
+    tie.close
+    (tie.spec
+    is-closed-requires
+    refused-requires
+    returns
+    mul-if2
+    refused-requires-2
+    returns-2
+    total-weight-requires
+    end-address-requires
+    cast-t14
+    cast-t15
+    cast-t16
+    returns-3)

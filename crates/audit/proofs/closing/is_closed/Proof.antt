@@ -1,0 +1,42 @@
+-- `is_closed` meets its contract. Assumes nothing.
+use borrow.Author.Needs.{needs}
+use Rattle.audit.proofs.Close.{closed-number, closed-more, closed-verdicts}
+use Rattle.audit.proofs.closing.is_closed.Statement.{statement}
+use Rattle.audit.proofs.closing.is_closed.Tie as tie
+
+mul-wide : tie.Need-mul-wide
+mul-wide c = search needs
+
+shared-slice-read-wide : tie.Need-shared-slice-read-wide
+shared-slice-read-wide c = search needs
+
+wide-requires : tie.Need-wide-requires
+wide-requires c κs = search needs
+
+returns : tie.Need-returns
+returns c = closed-number (c .before .before .before .before .before .before .before .args .board .now) (c .before .before .before .before .before .before .before .args .verdicts .now) (c .before .before .before .before .before .before .before .args .s) (c .before .before .wide .ensures) (c .if1 .taken)
+
+add-if2 : tie.Need-add-if2
+add-if2 c = search needs
+
+returns-2 : tie.Need-returns-2
+returns-2 c = closed-more (c .before .before .before .before .before .before .before .before .args .board .now) (c .before .before .before .before .before .before .before .before .args .verdicts .now) (c .before .before .before .before .before .before .before .before .args .s) (c .before .before .before .wide .ensures) (c .before .if1 .left) (c .if2 .taken)
+
+mul-result : tie.Need-mul-result
+mul-result c = search needs
+
+returns-3 : tie.Need-returns-3
+returns-3 c = closed-verdicts (c .before .before .before .before .before .before .before .before .before .args .board .now) (c .before .before .before .before .before .before .before .before .before .args .verdicts .now) (c .before .before .before .before .before .before .before .before .before .args .s) (c .before .before .before .before .wide .ensures) (c .before .before .if1 .left) (c .before .if2 .left)
+
+pub is-closed-spec : {M : Type 1} → statement M
+is-closed-spec =
+    tie.close
+    (tie.spec
+    mul-wide
+    shared-slice-read-wide
+    wide-requires
+    returns
+    add-if2
+    returns-2
+    mul-result
+    returns-3)

@@ -1,0 +1,16 @@
+-- `Report::refused` meets its contract. Assumes nothing.
+use mathlib.Core.Path.{refl}
+use Rattle.model.specs.Report.{reportOf}
+use borrow.Author.Needs.{needs}
+use Rattle.audit.proofs.report.Report.refused.Statement.{statement}
+use Rattle.audit.proofs.report.Report.refused.Tie as tie
+
+cast-t3 : tie.Need-cast-t3
+cast-t3 c = search needs
+
+returns : tie.Need-returns
+unfolding reportOf
+returns c = refl
+
+pub refused-spec : {M : Type 1} → statement M
+refused-spec = tie.close (tie.spec cast-t3 returns)

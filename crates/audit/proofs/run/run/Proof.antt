@@ -1,0 +1,138 @@
+-- `run` meets its contract. The invariant: the audit stands behind the items so far, and the answer is that from there on. Assumes nothing.
+use Prim.Native.Nat.{_-_}
+use native.Mathlib.Omega.{arith}
+use mathlib.Core.Path.{_∙_}
+use borrow.Author.Needs.{needs}
+use Rattle.model.specs.Audit.{itemLimit}
+use Rattle.audit.proofs.Loop.{Going, going-start, stop-ended, stop-closing, stop-full, stop-refused, going-on, going-less}
+use Rattle.audit.proofs.run.run.Statement.{statement}
+use Rattle.audit.proofs.run.run.Tie as tie
+
+abbrev Inv-loop : tie.InvT-loop
+Inv-loop board verdicts index₀ ballots₀ s₀ index ballots s = Going board verdicts index₀ ballots₀ index ballots s
+
+abbrev μ-loop : tie.MeasureT-loop
+μ-loop board verdicts index₀ ballots₀ s₀ index ballots s = itemLimit - s .items
+
+new-requires : tie.Need-new-requires Inv-loop μ-loop
+new-requires c κs = search needs
+
+loop-holds : tie.Need-loop-holds Inv-loop μ-loop
+loop-holds c = let s = c .before .before .before .before .before in going-start _ _ (s .pre .0) (s .pre .1) (s .pre .2) (c .new .ensures .0) (c .new .ensures .1 (s .args .board .now))
+
+refused-requires : tie.Need-refused-requires Inv-loop μ-loop
+refused-requires c κs = c .before .loop .inv .reached .kept .few
+
+same-length : tie.Need-same-length Inv-loop μ-loop
+same-length c = c .before .before .loop .inv .index-size
+
+same-length-2 : tie.Need-same-length-2 Inv-loop μ-loop
+same-length-2 c = c .before .before .loop .inv .ballots-size
+
+returns : tie.Need-returns Inv-loop μ-loop
+returns c = stop-ended (c .before .before .before .before .before .before .before .before .args .board .now) (c .before .before .before .before .before .before .before .before .args .verdicts .now) (c .before .before .loop .inv) (c .before .if1 .taken) (c .refused .result) (c .refused .ensures)
+
+mul-of : tie.Need-mul-of Inv-loop μ-loop
+mul-of c = search needs
+
+shared-slice-read-of : tie.Need-shared-slice-read-of Inv-loop μ-loop
+shared-slice-read-of c = search needs
+
+of-requires : tie.Need-of-requires Inv-loop μ-loop
+of-requires c κs = search needs
+
+close-requires : tie.Need-close-requires Inv-loop μ-loop
+close-requires c κs = (c .before .before .before .before .before .before .before .loop .inv .reached, c .before .before .before .before .before .before .if1 .left)
+
+same-length-3 : tie.Need-same-length-3 Inv-loop μ-loop
+same-length-3 c = c .before .before .before .before .before .before .before .before .loop .inv .index-size
+
+same-length-4 : tie.Need-same-length-4 Inv-loop μ-loop
+same-length-4 c = c .before .before .before .before .before .before .before .before .loop .inv .ballots-size
+
+returns-2 : tie.Need-returns-2 Inv-loop μ-loop
+returns-2 c = stop-closing (c .before .before .before .before .before .before .before .before .before .before .before .before .before .before .args .board .now) (c .before .before .before .before .before .before .before .before .before .before .before .before .before .before .args .verdicts .now) (c .before .before .before .before .before .before .before .before .loop .inv) (c .before .before .before .before .before .before .before .if1 .left) (c .before .before .before .before .before .of .ensures) (c .before .before .before .if2 .taken) (c .close .result) (c .close .ensures)
+
+refused-requires-2 : tie.Need-refused-requires-2 Inv-loop μ-loop
+refused-requires-2 c κs = c .before .before .before .before .before .before .before .loop .inv .reached .kept .few
+
+same-length-5 : tie.Need-same-length-5 Inv-loop μ-loop
+same-length-5 c = c .before .before .before .before .before .before .before .before .loop .inv .index-size
+
+same-length-6 : tie.Need-same-length-6 Inv-loop μ-loop
+same-length-6 c = c .before .before .before .before .before .before .before .before .loop .inv .ballots-size
+
+returns-3 : tie.Need-returns-3 Inv-loop μ-loop
+returns-3 c = stop-full (c .before .before .before .before .before .before .before .before .before .before .before .before .before .before .args .board .now) (c .before .before .before .before .before .before .before .before .before .before .before .before .before .before .args .verdicts .now) (c .before .before .before .before .before .before .before .before .loop .inv) (c .before .before .before .before .before .before .before .if1 .left) (c .before .before .before .before .before .of .ensures) (c .before .before .before .if2 .left) (c .before .if3 .taken) (c .refused2 .result) (c .refused2 .ensures)
+
+advance-requires : tie.Need-advance-requires Inv-loop μ-loop
+advance-requires c κs =
+    let few = c .before .before .before .before .before .before .before .before .before .loop .inv .reached .kept .few in
+    let more = c .before .before .if3 .left in
+    (c .before .before .before .before .before .before .before .before .before .loop .inv .reached, (c .before .before .before .before .before .before .before .before .if1 .left, omega arith))
+
+enum-known-finding : tie.Need-enum-known-finding Inv-loop μ-loop
+enum-known-finding c = search needs
+
+refused-requires-3 : tie.Need-refused-requires-3 Inv-loop μ-loop
+refused-requires-3 c κs = c .before .before .before .before .before .before .before .before .before .before .before .before .before .before .before .before .before .loop .inv .reached .kept .few
+
+same-length-7 : tie.Need-same-length-7 Inv-loop μ-loop
+same-length-7 c = c .before .before .before .before .before .before .before .before .advance .kept .1 .1 .0 ∙ c .before .before .before .before .before .before .before .before .before .before .before .before .before .before .before .before .before .before .loop .inv .index-size
+
+same-length-8 : tie.Need-same-length-8 Inv-loop μ-loop
+same-length-8 c = c .before .before .before .before .before .before .before .before .advance .kept .1 .1 .1 .0 ∙ c .before .before .before .before .before .before .before .before .before .before .before .before .before .before .before .before .before .before .loop .inv .ballots-size
+
+returns-4 : tie.Need-returns-4 Inv-loop μ-loop
+returns-4 c =
+    let few = c .before .before .before .before .before .before .before .before .before .before .before .before .before .before .before .before .before .before .loop .inv .reached .kept .few in
+    let more = c .before .before .before .before .before .before .before .before .before .before .before .if3 .left in
+    stop-refused (c .before .before .before .before .before .before .before .before .before .before .before .before .before .before .before .before .before .before .before .before .before .before .before .before .args .board .now) (c .before .before .before .before .before .before .before .before .before .before .before .before .before .before .before .before .before .before .before .before .before .before .before .before .args .verdicts .now) (c .before .before .before .before .before .before .before .before .before .before .before .before .before .before .before .before .before .before .loop .inv) (c .before .before .before .before .before .before .before .before .before .before .before .before .before .before .before .before .before .if1 .left) (c .before .before .before .before .before .before .before .before .before .before .before .before .before .before .before .of .ensures) (c .before .before .before .before .before .before .before .before .before .before .before .before .before .if2 .left) (omega arith) (c .before .before .before .before .before .before .before .before .advance .ensures) _ (c .before .before .finding .given .1) (c .refused3 .result) (c .refused3 .ensures)
+
+enum-told : tie.Need-enum-told Inv-loop μ-loop
+enum-told c = search needs
+
+loop-less : tie.Need-loop-less Inv-loop μ-loop
+loop-less c =
+    let few = c .before .before .before .before .before .before .before .before .before .before .before .before .before .before .before .before .before .loop .inv .reached .kept .few in
+    let more = c .before .before .before .before .before .before .before .before .before .before .if3 .left in
+    going-less (c .before .before .before .before .before .before .before .before .before .before .before .before .before .before .before .before .before .before .before .before .before .before .before .args .board .now) (c .before .before .before .before .before .before .before .before .before .before .before .before .before .before .before .before .before .before .before .before .before .before .before .args .verdicts .now) (c .before .before .before .before .before .before .before .before .before .before .before .before .before .before .before .before .before .loop .inv) (c .before .before .before .before .before .before .before .before .before .before .before .before .before .before .before .before .if1 .left) (c .before .before .before .before .before .before .before .before .before .before .before .before .before .before .of .ensures) (c .before .before .before .before .before .before .before .before .before .before .before .before .if2 .left) (omega arith) (c .before .before .before .before .before .before .before .advance .ensures) (c .before .enum-told .given .1)
+
+loop-again : tie.Need-loop-again Inv-loop μ-loop
+loop-again c =
+    let few = c .before .before .before .before .before .before .before .before .before .before .before .before .before .before .before .before .before .loop .inv .reached .kept .few in
+    let more = c .before .before .before .before .before .before .before .before .before .before .if3 .left in
+    going-on (c .before .before .before .before .before .before .before .before .before .before .before .before .before .before .before .before .before .before .before .before .before .before .before .args .board .now) (c .before .before .before .before .before .before .before .before .before .before .before .before .before .before .before .before .before .before .before .before .before .before .before .args .verdicts .now) (c .before .before .before .before .before .before .before .before .before .before .before .before .before .before .before .before .before .loop .inv) (c .before .before .before .before .before .before .before .before .before .before .before .before .before .before .before .before .if1 .left) (c .before .before .before .before .before .before .before .before .before .before .before .before .before .before .of .ensures) (c .before .before .before .before .before .before .before .before .before .before .before .before .if2 .left) (omega arith) (c .before .before .before .before .before .before .before .advance .ensures) (c .before .enum-told .given .1) (c .before .before .before .before .before .before .before .advance .kept .1 .1 .0) (c .before .before .before .before .before .before .before .advance .kept .1 .1 .1 .0)
+
+pub run-spec : {M : Type 1} → statement M
+run-spec =
+    tie.close
+    (tie.spec
+    Inv-loop
+    μ-loop
+    new-requires
+    loop-holds
+    refused-requires
+    same-length
+    same-length-2
+    returns
+    mul-of
+    shared-slice-read-of
+    of-requires
+    close-requires
+    same-length-3
+    same-length-4
+    returns-2
+    refused-requires-2
+    same-length-5
+    same-length-6
+    returns-3
+    advance-requires
+    enum-known-finding
+    refused-requires-3
+    same-length-7
+    same-length-8
+    returns-4
+    enum-told
+    loop-less
+    loop-again)

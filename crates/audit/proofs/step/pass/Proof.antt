@@ -1,0 +1,30 @@
+-- `pass` meets its contract. Assumes nothing.
+use Rattle.audit.proofs.Advance.{mains-before, reached-next}
+use borrow.Author.Needs.{needs}
+use Rattle.audit.proofs.step.pass.Statement.{statement}
+use Rattle.audit.proofs.step.pass.Tie as tie
+
+after-requires : tie.Need-after-requires
+after-requires c κs = search needs
+
+after-requires-2 : tie.Need-after-requires-2
+after-requires-2 c κs = search needs
+
+put-requires : tie.Need-put-requires
+put-requires c κs = (c .before .before .before .before .before .before .before .before .before .before .before .pre .1, mains-before (c .before .before .before .before .before .before .before .before .before .before .before .pre .0 .stands))
+
+same-length : tie.Need-same-length
+same-length c = search needs
+
+same-length-2 : tie.Need-same-length-2
+same-length-2 c = search needs
+
+returns : tie.Need-returns
+returns c =
+    let next = c .before .before .before .before .after2 .ensures in
+    (next .0, reached-next (c .before .before .before .before .before .before .before .before .before .before .before .before .before .before .args .s) (next .0) (c .before .before .put .ensures) (next .1) (c .before .before .before .before .before .before .before .before .after .ensures .0))
+
+pub pass-spec : {M : Type 1} → statement M
+pass-spec =
+    tie.close
+    (tie.spec after-requires after-requires-2 put-requires same-length same-length-2 returns)

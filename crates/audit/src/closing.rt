@@ -1,0 +1,90 @@
+// The closing word: 18, then 17, and the report of a board that is accepted.
+ghost use mathlib.Core.Path.{_≡_};
+ghost use Prim.Native.Nat.{_+_, _<_, _≤_};
+ghost use lib.ListN.{length};
+ghost use Rattle.model.specs.Lists.{part};
+ghost use Rattle.model.specs.History.{endAddress};
+ghost use Rattle.model.specs.Audit.{closing, closingOk};
+ghost use Rattle.model.specs.Report.{reportOf};
+ghost use Rattle.format.specs.Base.{base};
+ghost use Rattle.index.specs.Kept.{before, Kept};
+ghost use Rattle.state.specs.Stands.{Stands};
+ghost use Rattle.audit.specs.Reported.{reported};
+ghost use Rattle.audit.specs.Steps.{Reached};
+use crate::report::Answer;
+use crate::report::Report;
+use format::item::Item;
+use format::limit::Limit;
+use keys::Verdict;
+use refusal::Refusal;
+use state::State;
+
+// Numbers of items that a closing word can hold: bits 27..0.
+const NUMBERS: u32 = 0x1000_0000;
+
+// Whether the closing word has the number of items, nothing follows it, and no verdict words are left over.
+fn is_closed(board: &[u32], verdicts: &[u32], index: &[u32], s: State) -> bool
+    requires { ⌜ (Kept (now board) (now index) (s .items)) × (Stands (now board) s) × (s .place < length (now board)) ⌝ }
+    ensures { λ r. ⌜ r ≡ closingOk (now (board .entry)) (now (verdicts .entry)) (before (now (board .entry)) (s .items)) (s .place) ⌝ }
+{
+    let at = s.place;
+    if words::wide(board[at] % NUMBERS) != s.items {
+        return false;
+    }
+    if at + 1 != board.len() {
+        return false;
+    }
+    Verdict::SIZE * s.items == verdicts.len()
+}
+
+// The eight words at a place.
+fn eight_at(board: &[u32], at: usize) -> [u32; 8]
+    requires { ⌜ at + 8 ≤ length (now board) ⌝ }
+    ensures { λ r. ⌜ r ≡ part at 8 (now (board .entry)) ⌝ }
+{
+    let mut eight = [0; Item::ADDRESS];
+    let mut k = 0;
+    while k < Item::ADDRESS {
+        eight[k] = board[at + k];
+        k += 1;
+    }
+    eight
+}
+
+// The address of the last main item; zeros where there is none.
+fn end_address(board: &[u32], index: &[u32], s: State) -> [u32; 8]
+    requires { ⌜ (Kept (now board) (now index) (s .items)) × (Stands (now board) s) ⌝ }
+    ensures { λ r. ⌜ r ≡ endAddress base (before (now (board .entry)) (s .items)) ⌝ }
+{
+    if s.last == 0 {
+        return [0; Item::ADDRESS];
+    }
+    let e = index::entry(board, index, s.items, s.last);
+    eight_at(board, e.item.address)
+}
+
+// The answer at the closing word.
+pub fn close(board: &[u32], verdicts: &[u32], index: &[u32], ballots: &[u32], s: State) -> Report
+    requires { ⌜ (Reached (now board) (now index) (now ballots) s) × (s .place < length (now board)) ⌝ }
+    ensures { λ r. ⌜ reported r ≡ reportOf base (closing base (now (board .entry)) (now (verdicts .entry)) (length (now (ballots .entry))) (before (now (board .entry)) (s .items)) (s .place)) ⌝ }
+{
+    // 18 bad close
+    if !is_closed(board, verdicts, index, s) {
+        return Report::refused(Refusal::BadClosing, s.items);
+    }
+    // 17 list full
+    if ballots.len() < Limit::BALLOT_ROW * s.ballots {
+        return Report::refused(Refusal::TableFull, s.items);
+    }
+    let weight = tally::total_weight(ballots, s.ballots);
+    let end = end_address(board, index, s);
+    Report {
+        answer: Answer::Accepted {
+            items: s.items as u32,
+            mains: s.mains as u32,
+            ballots: s.ballots as u32,
+            weight,
+        },
+        end,
+    }
+}

@@ -1,0 +1,36 @@
+// The audit of a board: a report, and the rows of the index table and of the ballot table.
+ghost use mathlib.Core.Path.{_≡_};
+ghost use lib.ListN.{length};
+ghost use Rattle.model.specs.Audit.{audit};
+ghost use Rattle.model.specs.Report.{reportOf, indexAfter, ballotsAfter};
+ghost use Rattle.format.specs.Base.{base};
+ghost use Rattle.audit.specs.Reported.{reported};
+use format::limit::Limit;
+use refusal::Refusal;
+use report::Report;
+
+pub mod closing;
+pub mod report;
+pub mod run;
+pub mod step;
+
+// Audits a board with its verdict words. The index table and the ballot table are lent for writing: the word limit and 2 change neither,
+// every later refusal leaves both all zero, and acceptance leaves the rows and zeros.
+pub fn audit(board: &[u32], verdicts: &[u32], index: &mut [u32], ballots: &mut [u32]) -> Report
+    ensures answer { λ r. ⌜ reported r ≡ reportOf base (audit base (now (board .entry)) (now (verdicts .entry)) (length (now (index .entry))) (length (now (ballots .entry)))) ⌝ }
+    ensures index { λ _. ⌜ now (index .exit) ≡ indexAfter (audit base (now (board .entry)) (now (verdicts .entry)) (length (now (index .entry))) (length (now (ballots .entry)))) (now (index .entry)) ⌝ }
+    ensures ballots { λ _. ⌜ now (ballots .exit) ≡ ballotsAfter (audit base (now (board .entry)) (now (verdicts .entry)) (length (now (index .entry))) (length (now (ballots .entry)))) (now (ballots .entry)) ⌝ }
+{
+    // 1 oversize: more words than the limit
+    if Limit::WORDS < board.len() {
+        return Report::refused(Refusal::TooLarge, 0);
+    }
+    // 2 short sheet
+    if index.len() < Limit::INDEX {
+        return Report::refused(Refusal::ShortTable, 0);
+    }
+    if ballots.len() < Limit::BALLOTS {
+        return Report::refused(Refusal::ShortTable, 0);
+    }
+    run::read(board, verdicts, index, ballots)
+}

@@ -1,0 +1,47 @@
+// What an audit answers.
+ghost use mathlib.Core.Path.{_≡_};
+ghost use Prim.Native.Nat.{_≤_};
+ghost use Rattle.model.specs.Audit.{itemLimit, refused};
+ghost use Rattle.model.specs.Report.{reportOf};
+ghost use Rattle.format.specs.Base.{base};
+ghost use Rattle.refusal.specs.Number.{numberOf};
+ghost use Rattle.audit.specs.Reported.{reported};
+use format::item::Item;
+use refusal::Refusal;
+
+pub enum Answer {
+    // Items, main items, counted ballots and their total weight.
+    Accepted {
+        items: u32,
+        mains: u32,
+        ballots: u32,
+        weight: u64,
+    },
+    // What is wrong, and the items passed so far.
+    Refused {
+        refusal: Refusal,
+        items: u32,
+    },
+}
+
+// The answer, and beside it the end address: that of the last main item, zeros for a refusal. (An enum holds no array.)
+pub struct Report {
+    pub answer: Answer,
+    pub end: [u32; 8],
+}
+
+impl Report {
+    // A refusal after so many items.
+    pub fn refused(refusal: Refusal, items: usize) -> Self
+        requires { ⌜ items ≤ itemLimit ⌝ }
+        ensures { λ r. ⌜ reported r ≡ reportOf base (refused (numberOf refusal) items) ⌝ }
+    {
+        Report {
+            answer: Answer::Refused {
+                refusal,
+                items: items as u32,
+            },
+            end: [0; Item::ADDRESS],
+        }
+    }
+}

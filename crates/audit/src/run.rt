@@ -1,0 +1,84 @@
+// The items in their order, up to the first refusal or the closing word.
+ghost use mathlib.Core.Path.{_≡_};
+ghost use mathlib.Core.List.{[]};
+ghost use Prim.Native.Nat.{_≤_};
+ghost use lib.ListN.{length, replicate};
+ghost use Rattle.model.specs.Audit.{audit, items, itemLimit, wordLimit, indexNeed, ballotNeed, isEmpty};
+ghost use Rattle.model.specs.Report.{reportOf, indexAfter, ballotsAfter};
+ghost use Rattle.format.specs.Base.{base};
+ghost use Rattle.audit.specs.Reported.{reported};
+ghost use Rattle.audit.specs.Steps.{Sized, Zeros, Holds};
+use crate::closing;
+use crate::report::Answer;
+use crate::report::Report;
+use crate::step;
+use format::head::Head;
+use format::limit::Limit;
+use refusal::Finding;
+use refusal::Refusal;
+use state::State;
+
+// Whether the board has no words, or begins with a closing word.
+fn is_empty(board: &[u32]) -> bool
+    ensures { λ r. ⌜ r ≡ isEmpty (now (board .entry)) ⌝ }
+{
+    if board.len() == 0 {
+        return true;
+    }
+    Head::of(board[0]).kind == Head::CLOSING
+}
+
+// Reads the items, and writes the rows of those that pass into the tables, which are zero. A refusal leaves the rows of the items before it.
+fn run(board: &[u32], verdicts: &[u32], index: &mut [u32], ballots: &mut [u32]) -> Report
+    requires { ⌜ (Sized (now board) (now index) (now ballots)) × (Zeros (now index)) × (Zeros (now ballots)) ⌝ }
+    ensures answer { λ r. ⌜ reported r ≡ reportOf base (items base (now (board .entry)) (now (verdicts .entry)) (length (now (ballots .entry))) itemLimit [] 0) ⌝ }
+    ensures tables { λ _. ⌜ Holds (now (board .entry)) (items base (now (board .entry)) (now (verdicts .entry)) (length (now (ballots .entry))) itemLimit [] 0) (now (index .exit)) (now (ballots .exit)) ⌝ }
+{
+    let mut s = State::new();
+    loop {
+        let place = s.place;
+        // 4 torn: no closing word
+        if board.len() <= place {
+            return Report::refused(Refusal::Truncated, s.items);
+        }
+        if Head::of(board[place]).kind == Head::CLOSING {
+            return closing::close(board, verdicts, index, ballots, s);
+        }
+        // 1 oversize: a word after the last item that may be
+        if s.items == Limit::ITEMS {
+            return Report::refused(Refusal::TooLarge, s.items);
+        }
+        let step = step::advance(board, verdicts, index, ballots, s);
+        let finding = step.finding;
+        if let Finding::Fails(refusal) = finding {
+            return Report::refused(refusal, s.items);
+        }
+        let next = step.state;
+        s = next;
+    }
+}
+
+// The audit of a board within the word limit, with tables that are long enough.
+pub fn read(board: &[u32], verdicts: &[u32], index: &mut [u32], ballots: &mut [u32]) -> Report
+    requires { ⌜ Sized (now board) (now index) (now ballots) ⌝ }
+    ensures answer { λ r. ⌜ reported r ≡ reportOf base (audit base (now (board .entry)) (now (verdicts .entry)) (length (now (index .entry))) (length (now (ballots .entry)))) ⌝ }
+    ensures index { λ _. ⌜ now (index .exit) ≡ indexAfter (audit base (now (board .entry)) (now (verdicts .entry)) (length (now (index .entry))) (length (now (ballots .entry)))) (now (index .entry)) ⌝ }
+    ensures ballots { λ _. ⌜ now (ballots .exit) ≡ ballotsAfter (audit base (now (board .entry)) (now (verdicts .entry)) (length (now (index .entry))) (length (now (ballots .entry)))) (now (ballots .entry)) ⌝ }
+{
+    words::clear(index);
+    words::clear(ballots);
+    // 3 blank
+    if is_empty(board) {
+        return Report::refused(Refusal::EmptyBoard, 0);
+    }
+    let r = run(board, verdicts, index, ballots);
+    let answer = r.answer;
+    if let Answer::Refused {
+        refusal: _,
+        items: _,
+    } = answer {
+        words::clear(index);
+        words::clear(ballots);
+    }
+    r
+}

@@ -1,0 +1,63 @@
+-- `links_finding` meets its contract. Assumes nothing.
+use mathlib.Core.Path.{_≡_, ap, _∙_}
+use mathlib.Core.Bool.{true}
+use borrow.Author.Needs.{needs}
+use Rattle.model.specs.Links.{addressOk, previousOk, parentOk}
+use Rattle.format.specs.Base.{base}
+use Rattle.format.specs.Table.{parentRuleOf}
+use Rattle.index.specs.Kept.{before, itemAfter}
+use Rattle.judge.proofs.First.{met, unmet, links-address, links-previous, links-parent, links-time, links-met}
+use Rattle.judge.proofs.Item.{at-own, at-read}
+use Rattle.judge.proofs.checks.links_finding.Statement.{statement}
+use Rattle.judge.proofs.checks.links_finding.Tie as tie
+
+-- what each check that was met shows
+address-met : (c : tie.Else1) → addressOk base (itemAfter (c .before .before .before .before .args .board .now) (c .before .before .before .before .args .s .items)) ≡ true
+address-met c = met (c .before .address-ok .ensures ∙ ap (addressOk base) (at-read (c .before .before .before .before .pre .0))) (c .if1 .left)
+
+previous-met : (c : tie.Else2) → previousOk base (before (c .before .before .before .before .before .before .args .board .now) (c .before .before .before .before .before .before .args .s .items)) (itemAfter (c .before .before .before .before .before .before .args .board .now) (c .before .before .before .before .before .before .args .s .items)) ≡ true
+previous-met c = met (c .before .previous-ok .ensures) (c .if2 .left)
+
+parent-met : (c : tie.Else3) → parentOk base (before (c .before .before .before .before .before .before .before .before .args .board .now) (c .before .before .before .before .before .before .before .before .args .s .items)) (parentRuleOf (c .before .before .before .before .before .before .before .before .args .row .parent)) (itemAfter (c .before .before .before .before .before .before .before .before .args .board .now) (c .before .before .before .before .before .before .before .before .args .s .items)) ≡ true
+parent-met c = met (c .before .parent-ok .ensures) (c .if3 .left)
+
+address-ok-requires : tie.Need-address-ok-requires
+address-ok-requires c κs = at-own (c .before .before .pre .0)
+
+returns : tie.Need-returns
+returns c v = links-address _ _ v _ _ (unmet (c .before .address-ok .ensures ∙ ap (addressOk base) (at-read (c .before .before .before .before .pre .0))) (c .if1 .taken))
+
+previous-ok-requires : tie.Need-previous-ok-requires
+previous-ok-requires c κs = search needs
+
+returns-2 : tie.Need-returns-2
+returns-2 c v = links-previous _ _ v _ _ (address-met (c .before .before)) (unmet (c .before .previous-ok .ensures) (c .if2 .taken))
+
+parent-ok-requires : tie.Need-parent-ok-requires
+parent-ok-requires c κs = search needs
+
+returns-3 : tie.Need-returns-3
+returns-3 c v = links-parent _ _ v _ _ (address-met (c .before .before .before .before)) (previous-met (c .before .before)) (unmet (c .before .parent-ok .ensures) (c .if3 .taken))
+
+time-ok-requires : tie.Need-time-ok-requires
+time-ok-requires c κs = search needs
+
+returns-4 : tie.Need-returns-4
+returns-4 c v = links-time _ _ v _ _ (address-met (c .before .before .before .before .before .before)) (previous-met (c .before .before .before .before)) (parent-met (c .before .before)) (unmet (c .before .time-ok .ensures) (c .if4 .taken))
+
+returns-5 : tie.Need-returns-5
+returns-5 c v = links-met _ _ v _ _ (address-met (c .before .before .before .before .before .before)) (previous-met (c .before .before .before .before)) (parent-met (c .before .before)) (met (c .before .time-ok .ensures) (c .if4 .left))
+
+pub links-finding-spec : {M : Type 1} → statement M
+links-finding-spec =
+    tie.close
+    (tie.spec
+    address-ok-requires
+    returns
+    previous-ok-requires
+    returns-2
+    parent-ok-requires
+    returns-3
+    time-ok-requires
+    returns-4
+    returns-5)

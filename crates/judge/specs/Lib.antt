@@ -1,0 +1,3 @@
+-- What is found of an item.
+pub mod Checks
+pub mod Judged
