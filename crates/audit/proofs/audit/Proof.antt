@@ -8,19 +8,32 @@ refused-requires : tie.Need-refused-requires
 refused-requires c κs = search needs
 
 returns : tie.Need-returns
-returns c = audited-unread (c .before .before .before .before .before .before .args .board .now) (c .before .before .before .before .before .before .args .verdicts .now) (c .before .before .before .before .before .before .args .index .now) (c .before .before .before .before .before .before .args .ballots .now) _ (audit-large (c .before .before .before .before .before .before .args .board .now) (c .before .before .before .before .before .before .args .verdicts .now) (c .before .before .before .before .before .before .args .index .now) (c .before .before .before .before .before .before .args .ballots .now) (c .before .if1 .taken)) (c .refused .result) (c .refused .ensures)
+returns c =
+    let start = c .before .before .before .before .before .before in
+    let x = start .args in
+    audited-unread (x .board .now) (x .verdicts .now) (x .index .now) (x .ballots .now) _
+    (audit-large (x .board .now) (x .verdicts .now) (x .index .now) (x .ballots .now) (c .before .if1 .taken)) (c .refused .result)
+    (c .refused .ensures)
 
 refused-requires-2 : tie.Need-refused-requires-2
 refused-requires-2 c κs = search needs
 
 returns-2 : tie.Need-returns-2
-returns-2 c = audited-unread (c .before .before .before .before .before .before .before .args .board .now) (c .before .before .before .before .before .before .before .args .verdicts .now) (c .before .before .before .before .before .before .before .args .index .now) (c .before .before .before .before .before .before .before .args .ballots .now) _ (audit-short-index (c .before .before .before .before .before .before .before .args .board .now) (c .before .before .before .before .before .before .before .args .verdicts .now) (c .before .before .before .before .before .before .before .args .index .now) (c .before .before .before .before .before .before .before .args .ballots .now) (c .before .before .if1 .left) (c .before .if2 .taken)) (c .refused2 .result) (c .refused2 .ensures)
+returns-2 c =
+    let start = c .before .before .before .before .before .before .before in
+    let x = start .args in
+    audited-unread (x .board .now) (x .verdicts .now) (x .index .now) (x .ballots .now) _
+    (audit-short-index (x .board .now) (x .verdicts .now) (x .index .now) (x .ballots .now) (c .before .before .if1 .left) (c .before .if2 .taken)) (c .refused2 .result) (c .refused2 .ensures)
 
 refused-requires-3 : tie.Need-refused-requires-3
 refused-requires-3 c κs = search needs
 
 returns-3 : tie.Need-returns-3
-returns-3 c = audited-unread (c .before .before .before .before .before .before .before .before .args .board .now) (c .before .before .before .before .before .before .before .before .args .verdicts .now) (c .before .before .before .before .before .before .before .before .args .index .now) (c .before .before .before .before .before .before .before .before .args .ballots .now) _ (audit-short-ballots (c .before .before .before .before .before .before .before .before .args .board .now) (c .before .before .before .before .before .before .before .before .args .verdicts .now) (c .before .before .before .before .before .before .before .before .args .index .now) (c .before .before .before .before .before .before .before .before .args .ballots .now) (c .before .before .before .if1 .left) (c .before .before .if2 .left) (c .before .if3 .taken)) (c .refused3 .result) (c .refused3 .ensures)
+returns-3 c =
+    let start = c .before .before .before .before .before .before .before .before in
+    let x = start .args in
+    audited-unread (x .board .now) (x .verdicts .now) (x .index .now) (x .ballots .now) _
+    (audit-short-ballots (x .board .now) (x .verdicts .now) (x .index .now) (x .ballots .now) (c .before .before .before .if1 .left) (c .before .before .if2 .left) (c .before .if3 .taken)) (c .refused3 .result) (c .refused3 .ensures)
 
 read-requires : tie.Need-read-requires
 read-requires c κs = search needs

@@ -11,45 +11,70 @@ use Rattle.audit.proofs.closing.close.Statement.{statement}
 use Rattle.audit.proofs.closing.close.Tie as tie
 
 is-closed-requires : tie.Need-is-closed-requires
-is-closed-requires c κs = let reached = c .before .before .before .before .pre .0 in (reached .kept, reached .stands, c .before .before .before .before .pre .1)
+is-closed-requires c κs =
+    let start = c .before .before .before .before in
+    let reached = start .pre .0 in (reached .kept, reached .stands, start .pre .1)
 
 refused-requires : tie.Need-refused-requires
 refused-requires c κs = c .before .before .before .before .before .before .pre .0 .kept .few
 
 returns : tie.Need-returns
-returns c = c .refused .ensures ∙ ap (reportOf base) (sym (close-bad (c .before .before .before .before .before .before .before .args .board .now) (c .before .before .before .before .before .before .before .args .verdicts .now) (length (c .before .before .before .before .before .before .before .args .ballots .now)) (c .before .before .before .before .before .before .before .args .s) (unmet (c .before .before .is-closed .ensures) (c .before .if1 .taken))))
+returns c =
+    let start = c .before .before .before .before .before .before .before in
+    let x = start .args in
+    c .refused .ensures ∙ ap (reportOf base)
+    (sym (close-bad (x .board .now) (x .verdicts .now) (length (x .ballots .now)) (x .s) (unmet (c .before .before .is-closed .ensures) (c .before .if1 .taken))))
 
 mul-if2 : tie.Need-mul-if2
-mul-if2 c = let few = c .before .before .before .before .before .before .before .pre .0 .kept .few in omega (arith, ballots-few (c .before .before .before .before .before .before .before .pre .0))
+mul-if2 c =
+    let start = c .before .before .before .before .before .before .before in
+    let few = start .pre .0 .kept .few in omega (arith, ballots-few (start .pre .0))
 
 refused-requires-2 : tie.Need-refused-requires-2
 refused-requires-2 c κs = c .before .before .before .before .before .before .before .before .pre .0 .kept .few
 
 returns-2 : tie.Need-returns-2
 returns-2 c =
+    let start = c .before .before .before .before .before .before .before .before .before in
+    let x = start .args in
     c .refused2 .ensures
-    ∙ ap (reportOf base) (sym (close-full (c .before .before .before .before .before .before .before .before .before .args .board .now) (c .before .before .before .before .before .before .before .before .before .args .verdicts .now) (length (c .before .before .before .before .before .before .before .before .before .args .ballots .now)) (c .before .before .before .before .before .before .before .before .before .args .s) (met (c .before .before .before .before .is-closed .ensures) (c .before .before .before .if1 .left)) (c .before .before .before .before .before .before .before .before .before .pre .0 .stands) (c .before .if2 .taken)))
+    ∙ ap (reportOf base)
+    (sym (close-full (x .board .now) (x .verdicts .now) (length (x .ballots .now)) (x .s) (met (c .before .before .before .before .is-closed .ensures) (c .before .before .before .if1 .left)) (start .pre .0 .stands) (c .before .if2 .taken)))
 
 total-weight-requires : tie.Need-total-weight-requires
-total-weight-requires c κs = let few = c .before .before .before .before .before .before .before .before .pre .0 .kept .few in (c .if2 .left, omega (arith, ballots-few (c .before .before .before .before .before .before .before .before .pre .0)))
+total-weight-requires c κs =
+    let start = c .before .before .before .before .before .before .before .before in
+    let few = start .pre .0 .kept .few in (c .if2 .left, omega (arith, ballots-few (start .pre .0)))
 
 end-address-requires : tie.Need-end-address-requires
-end-address-requires c κs = (c .before .before .before .before .before .before .before .before .before .pre .0 .kept, c .before .before .before .before .before .before .before .before .before .pre .0 .stands)
+end-address-requires c κs =
+    let start = c .before .before .before .before .before .before .before .before .before in
+    (start .pre .0 .kept, start .pre .0 .stands)
 
 cast-t14 : tie.Need-cast-t14
 cast-t14 c = let few = c .before .before .before .before .before .before .before .before .before .before .before .pre .0 .kept .few in omega arith
 
 cast-t15 : tie.Need-cast-t15
-cast-t15 c = let few = c .before .before .before .before .before .before .before .before .before .before .before .before .pre .0 .kept .few in omega (arith, mains-few (c .before .before .before .before .before .before .before .before .before .before .before .before .args .board .now) (c .before .before .before .before .before .before .before .before .before .before .before .before .args .s) (c .before .before .before .before .before .before .before .before .before .before .before .before .pre .0 .stands))
+cast-t15 c =
+    let start = c .before .before .before .before .before .before .before .before .before .before .before .before in
+    let few = start .pre .0 .kept .few in omega (arith, mains-few (start .args .board .now) (start .args .s) (start .pre .0 .stands))
 
 cast-t16 : tie.Need-cast-t16
-cast-t16 c = let few = c .before .before .before .before .before .before .before .before .before .before .before .before .before .pre .0 .kept .few in omega (arith, ballots-few (c .before .before .before .before .before .before .before .before .before .before .before .before .before .pre .0))
+cast-t16 c =
+    let start = c .before .before .before .before .before .before .before .before .before .before .before .before .before in
+    let few = start .pre .0 .kept .few in omega (arith, ballots-few (start .pre .0))
 
 returns-3 : tie.Need-returns-3
 returns-3 c =
-    let reached = c .before .before .before .before .before .before .before .before .before .before .before .before .before .pre .0 in
-    accepted-report reached _ _ (c .before .before .before .before .total-weight .ensures _ (holds-rows reached)) (c .before .before .before .end-address .ensures)
-    ∙ ap (reportOf base) (sym (close-good (c .before .before .before .before .before .before .before .before .before .before .before .before .before .args .board .now) (c .before .before .before .before .before .before .before .before .before .before .before .before .before .args .verdicts .now) (length (c .before .before .before .before .before .before .before .before .before .before .before .before .before .args .ballots .now)) (c .before .before .before .before .before .before .before .before .before .before .before .before .before .args .s) (met (c .before .before .before .before .before .before .before .before .is-closed .ensures) (c .before .before .before .before .before .before .before .if1 .left)) (reached .stands) (c .before .before .before .before .before .if2 .left)))
+    let one = c .before .before .before .before .before .before .before in
+    let at-is-closed = one .before in
+    let start = at-is-closed .before .before .before .before .before in
+    let x = start .args in
+    let reached = start .pre .0 in
+    accepted-report reached _ _ (c .before .before .before .before .total-weight .ensures _ (holds-rows reached))
+    (c .before .before .before .end-address .ensures)
+    ∙ ap (reportOf base)
+    (sym (close-good (x .board .now) (x .verdicts .now) (length (x .ballots .now)) (x .s) (met (at-is-closed .is-closed .ensures) (one .if1 .left)) (reached .stands) (c .before .before .before .before .before .if2 .left)))
 
 pub close-spec : {M : Type 1} → statement M
 close-spec =

@@ -14,19 +14,29 @@ wide-requires : tie.Need-wide-requires
 wide-requires c κs = search needs
 
 returns : tie.Need-returns
-returns c = closed-number (c .before .before .before .before .before .before .before .args .board .now) (c .before .before .before .before .before .before .before .args .verdicts .now) (c .before .before .before .before .before .before .before .args .s) (c .before .before .wide .ensures) (c .if1 .taken)
+returns c =
+    let start = c .before .before .before .before .before .before .before in
+    let x = start .args in
+    closed-number (x .board .now) (x .verdicts .now) (x .s) (c .before .before .wide .ensures) (c .if1 .taken)
 
 add-if2 : tie.Need-add-if2
 add-if2 c = search needs
 
 returns-2 : tie.Need-returns-2
-returns-2 c = closed-more (c .before .before .before .before .before .before .before .before .args .board .now) (c .before .before .before .before .before .before .before .before .args .verdicts .now) (c .before .before .before .before .before .before .before .before .args .s) (c .before .before .before .wide .ensures) (c .before .if1 .left) (c .if2 .taken)
+returns-2 c =
+    let start = c .before .before .before .before .before .before .before .before in
+    let x = start .args in
+    closed-more (x .board .now) (x .verdicts .now) (x .s) (c .before .before .before .wide .ensures) (c .before .if1 .left) (c .if2 .taken)
 
 mul-result : tie.Need-mul-result
 mul-result c = search needs
 
 returns-3 : tie.Need-returns-3
-returns-3 c = closed-verdicts (c .before .before .before .before .before .before .before .before .before .args .board .now) (c .before .before .before .before .before .before .before .before .before .args .verdicts .now) (c .before .before .before .before .before .before .before .before .before .args .s) (c .before .before .before .before .wide .ensures) (c .before .before .if1 .left) (c .before .if2 .left)
+returns-3 c =
+    let start = c .before .before .before .before .before .before .before .before .before in
+    let x = start .args in
+    closed-verdicts (x .board .now) (x .verdicts .now) (x .s) (c .before .before .before .before .wide .ensures)
+    (c .before .before .if1 .left) (c .before .if2 .left)
 
 pub is-closed-spec : {M : Type 1} → statement M
 is-closed-spec =

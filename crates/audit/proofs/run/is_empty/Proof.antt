@@ -14,7 +14,9 @@ of-requires : tie.Need-of-requires
 of-requires c κs = search needs
 
 returns-2 : tie.Need-returns-2
-returns-2 c = empty-first (c .before .before .before .before .before .args .board .now) (c .before .before .before .if1 .left) _ (c .before .of .ensures)
+returns-2 c =
+    let start = c .before .before .before .before .before in
+    empty-first (start .args .board .now) (c .before .before .before .if1 .left) _ (c .before .of .ensures)
 
 pub is-empty-spec : {M : Type 1} → statement M
 is-empty-spec = tie.close (tie.spec returns shared-slice-read-of of-requires returns-2)

@@ -24,10 +24,22 @@ same-length-2 : tie.Need-same-length-2
 same-length-2 c = search needs
 
 returns : tie.Need-returns
-returns c = audited-empty (c .before .before .before .before .before .before .before .before .before .before .before .before .before .before .before .args .board .now) (c .before .before .before .before .before .before .before .before .before .before .before .before .before .before .before .args .verdicts .now) (c .before .before .before .before .before .before .before .before .before .before .before .before .before .before .before .args .index .now) (c .before .before .before .before .before .before .before .before .before .before .before .before .before .before .before .args .ballots .now) (c .before .before .before .before .before .before .before .before .before .before .before .before .before .before .before .pre) (sym (c .before .before .is-empty .ensures) ∙ c .before .if1 .taken) (c .refused .result) (c .refused .ensures) (c .before .before .before .before .before .before .before .before .before .clear .ensures) (c .before .before .before .before .before .clear2 .ensures)
+returns c =
+    let at-clear = c .before .before .before .before .before .before .before .before .before in
+    let start = at-clear .before .before .before .before .before .before in
+    let x = start .args in
+    audited-empty (x .board .now) (x .verdicts .now) (x .index .now) (x .ballots .now) (start .pre)
+    (sym (c .before .before .is-empty .ensures) ∙ c .before .if1 .taken) (c .refused .result) (c .refused .ensures)
+    (at-clear .clear .ensures) (c .before .before .before .before .before .clear2 .ensures)
 
 run-requires : tie.Need-run-requires
-run-requires c κs = cleared-zeros (c .before .before .before .before .before .before .before .before .before .before .before .before .before .before .before .before .args .board .now) (c .before .before .before .before .before .before .before .before .before .before .before .before .before .before .before .before .args .verdicts .now) (c .before .before .before .before .before .before .before .before .before .before .before .before .before .before .before .before .args .index .now) (c .before .before .before .before .before .before .before .before .before .before .before .before .before .before .before .before .args .ballots .now) (c .before .before .before .before .before .before .before .before .before .before .before .before .before .before .before .before .pre) _ _ (c .before .before .before .before .before .before .before .before .before .before .clear .ensures) (c .before .before .before .before .before .before .clear2 .ensures)
+run-requires c κs =
+    let at-clear2 = c .before .before .before .before .before .before in
+    let at-clear = at-clear2 .before .before .before .before in
+    let start = at-clear .before .before .before .before .before .before in
+    let x = start .args in
+    cleared-zeros (x .board .now) (x .verdicts .now) (x .index .now) (x .ballots .now) (start .pre) _ _ (at-clear .clear .ensures)
+    (at-clear2 .clear2 .ensures)
 
 enum-told : tie.Need-enum-told
 enum-told c = search needs
@@ -49,8 +61,20 @@ same-length-4 c = search needs
 
 returns-2 : tie.Need-returns-2
 returns-2 c =
-    audited-cleared (c .before .before .before .before .before .before .before .before .before .before .before .before .before .before .before .before .before .before .before .before .before .before .before .before .before .before .before .before .before .before .before .args .board .now) (c .before .before .before .before .before .before .before .before .before .before .before .before .before .before .before .before .before .before .before .before .before .before .before .before .before .before .before .before .before .before .before .args .verdicts .now) (c .before .before .before .before .before .before .before .before .before .before .before .before .before .before .before .before .before .before .before .before .before .before .before .before .before .before .before .before .before .before .before .args .index .now) (c .before .before .before .before .before .before .before .before .before .before .before .before .before .before .before .before .before .before .before .before .before .before .before .before .before .before .before .before .before .before .before .args .ballots .now) (c .before .before .before .before .before .before .before .before .before .before .before .before .before .before .before .before .before .before .before .before .before .before .before .before .before .before .before .before .before .before .before .pre) (sym (c .before .before .before .before .before .before .before .before .before .before .before .before .before .before .before .before .before .before .is-empty .ensures) ∙ c .before .before .before .before .before .before .before .before .before .before .before .before .before .before .before .before .before .if1 .left) _ (sym (c .before .before .before .before .before .before .before .before .before .before .before .before .before .before .before .before .before .before .before .before .before .clear2 .kept .0)) _ _ (c .before .before .before .before .before .before .before .before .before .before .before .before .before .before .run .ensures .1) (c .before .before .before .before .before .before .before .before .before .before .before .before .before .before .run .result) (c .before .before .before .before .before .before .before .before .before .before .before .before .before .before .run .ensures .0) (c .before .before .before .before .before .before .before .before .enum-told .given .1) _ _
-    (c .before .before .before .before .before .before .clear3 .ensures) (c .before .before .clear4 .ensures) (c .before .before .before .before .before .before .before .before .before .before .before .before .before .before .run .kept .1 .1 .0 ∙ c .before .before .before .before .before .before .before .before .before .before .before .before .before .before .before .before .before .before .before .before .before .before .before .before .before .clear .kept .0) (c .before .before .before .before .before .before .before .before .before .before .before .before .before .before .run .kept .1 .1 .1 .0 ∙ c .before .before .before .before .before .before .before .before .before .before .before .before .before .before .before .before .before .before .before .before .before .clear2 .kept .0)
+    let at-clear3 = c .before .before .before .before .before .before in
+    let at-enum-told = at-clear3 .before .before in
+    let at-run = at-enum-told .before .before .before .before .before .before in
+    let one = at-run .before .before .before in
+    let at-is-empty = one .before in
+    let at-clear2 = at-is-empty .before .before .before in
+    let at-clear = at-clear2 .before .before .before .before in
+    let start = at-clear .before .before .before .before .before .before in
+    let x = start .args in
+    audited-cleared (x .board .now) (x .verdicts .now) (x .index .now) (x .ballots .now) (start .pre)
+    (sym (at-is-empty .is-empty .ensures) ∙ one .if1 .left) _ (sym (at-clear2 .clear2 .kept .0)) _ _ (at-run .run .ensures .1)
+    (at-run .run .result) (at-run .run .ensures .0) (at-enum-told .enum-told .given .1) _ _
+    (at-clear3 .clear3 .ensures) (c .before .before .clear4 .ensures) (at-run .run .kept .1 .1 .0 ∙ at-clear .clear .kept .0)
+    (at-run .run .kept .1 .1 .1 .0 ∙ at-clear2 .clear2 .kept .0)
 
 same-length-5 : tie.Need-same-length-5
 same-length-5 c = search needs
@@ -60,8 +84,17 @@ same-length-6 c = search needs
 
 returns-3 : tie.Need-returns-3
 returns-3 c =
-    audited-filled (c .before .before .before .before .before .before .before .before .before .before .before .before .before .before .before .before .before .before .before .before .before .before .before .args .board .now) (c .before .before .before .before .before .before .before .before .before .before .before .before .before .before .before .before .before .before .before .before .before .before .before .args .verdicts .now) (c .before .before .before .before .before .before .before .before .before .before .before .before .before .before .before .before .before .before .before .before .before .before .before .args .index .now) (c .before .before .before .before .before .before .before .before .before .before .before .before .before .before .before .before .before .before .before .before .before .before .before .args .ballots .now) (c .before .before .before .before .before .before .before .before .before .before .before .before .before .before .before .before .before .before .before .before .before .before .before .pre) (sym (c .before .before .before .before .before .before .before .before .before .before .is-empty .ensures) ∙ c .before .before .before .before .before .before .before .before .before .if1 .left) _ (sym (c .before .before .before .before .before .before .before .before .before .before .before .before .before .clear2 .kept .0)) _ _ (c .before .before .before .before .before .before .run .ensures .1) (c .before .before .before .before .before .before .run .result) (c .before .before .before .before .before .before .run .ensures .0) (c .enum-told2 .given .1)
-    (c .before .before .before .before .before .before .run .kept .1 .1 .0 ∙ c .before .before .before .before .before .before .before .before .before .before .before .before .before .before .before .before .before .clear .kept .0) (c .before .before .before .before .before .before .run .kept .1 .1 .1 .0 ∙ c .before .before .before .before .before .before .before .before .before .before .before .before .before .clear2 .kept .0)
+    let at-run = c .before .before .before .before .before .before in
+    let one = at-run .before .before .before in
+    let at-is-empty = one .before in
+    let at-clear2 = at-is-empty .before .before .before in
+    let at-clear = at-clear2 .before .before .before .before in
+    let start = at-clear .before .before .before .before .before .before in
+    let x = start .args in
+    audited-filled (x .board .now) (x .verdicts .now) (x .index .now) (x .ballots .now) (start .pre)
+    (sym (at-is-empty .is-empty .ensures) ∙ one .if1 .left) _ (sym (at-clear2 .clear2 .kept .0)) _ _ (at-run .run .ensures .1)
+    (at-run .run .result) (at-run .run .ensures .0) (c .enum-told2 .given .1)
+    (at-run .run .kept .1 .1 .0 ∙ at-clear .clear .kept .0) (at-run .run .kept .1 .1 .1 .0 ∙ at-clear2 .clear2 .kept .0)
 
 pub read-spec : {M : Type 1} → statement M
 read-spec =

@@ -18,7 +18,9 @@ new-requires : tie.Need-new-requires Inv-loop μ-loop
 new-requires c κs = search needs
 
 loop-holds : tie.Need-loop-holds Inv-loop μ-loop
-loop-holds c = let s = c .before .before .before .before .before in going-start _ _ (s .pre .0) (s .pre .1) (s .pre .2) (c .new .ensures .0) (c .new .ensures .1 (s .args .board .now))
+loop-holds c =
+    let s = c .before .before .before .before .before in going-start _ _ (s .pre .0) (s .pre .1) (s .pre .2) (c .new .ensures .0)
+    (c .new .ensures .1 (s .args .board .now))
 
 refused-requires : tie.Need-refused-requires Inv-loop μ-loop
 refused-requires c κs = c .before .loop .inv .reached .kept .few
@@ -30,7 +32,10 @@ same-length-2 : tie.Need-same-length-2 Inv-loop μ-loop
 same-length-2 c = c .before .before .loop .inv .ballots-size
 
 returns : tie.Need-returns Inv-loop μ-loop
-returns c = stop-ended (c .before .before .before .before .before .before .before .before .args .board .now) (c .before .before .before .before .before .before .before .before .args .verdicts .now) (c .before .before .loop .inv) (c .before .if1 .taken) (c .refused .result) (c .refused .ensures)
+returns c =
+    let start = c .before .before .before .before .before .before .before .before in
+    stop-ended (start .args .board .now) (start .args .verdicts .now) (c .before .before .loop .inv) (c .before .if1 .taken)
+    (c .refused .result) (c .refused .ensures)
 
 mul-of : tie.Need-mul-of Inv-loop μ-loop
 mul-of c = search needs
@@ -42,7 +47,10 @@ of-requires : tie.Need-of-requires Inv-loop μ-loop
 of-requires c κs = search needs
 
 close-requires : tie.Need-close-requires Inv-loop μ-loop
-close-requires c κs = (c .before .before .before .before .before .before .before .loop .inv .reached, c .before .before .before .before .before .before .if1 .left)
+close-requires c κs =
+    let one = c .before .before .before .before .before .before in
+    let head = one .before in
+    (head .loop .inv .reached, one .if1 .left)
 
 same-length-3 : tie.Need-same-length-3 Inv-loop μ-loop
 same-length-3 c = c .before .before .before .before .before .before .before .before .loop .inv .index-size
@@ -51,7 +59,12 @@ same-length-4 : tie.Need-same-length-4 Inv-loop μ-loop
 same-length-4 c = c .before .before .before .before .before .before .before .before .loop .inv .ballots-size
 
 returns-2 : tie.Need-returns-2 Inv-loop μ-loop
-returns-2 c = stop-closing (c .before .before .before .before .before .before .before .before .before .before .before .before .before .before .args .board .now) (c .before .before .before .before .before .before .before .before .before .before .before .before .before .before .args .verdicts .now) (c .before .before .before .before .before .before .before .before .loop .inv) (c .before .before .before .before .before .before .before .if1 .left) (c .before .before .before .before .before .of .ensures) (c .before .before .before .if2 .taken) (c .close .result) (c .close .ensures)
+returns-2 c =
+    let one = c .before .before .before .before .before .before .before in
+    let head = one .before in
+    let start = head .before .before .before .before .before .before in
+    stop-closing (start .args .board .now) (start .args .verdicts .now) (head .loop .inv) (one .if1 .left)
+    (c .before .before .before .before .before .of .ensures) (c .before .before .before .if2 .taken) (c .close .result) (c .close .ensures)
 
 refused-requires-2 : tie.Need-refused-requires-2 Inv-loop μ-loop
 refused-requires-2 c κs = c .before .before .before .before .before .before .before .loop .inv .reached .kept .few
@@ -63,46 +76,88 @@ same-length-6 : tie.Need-same-length-6 Inv-loop μ-loop
 same-length-6 c = c .before .before .before .before .before .before .before .before .loop .inv .ballots-size
 
 returns-3 : tie.Need-returns-3 Inv-loop μ-loop
-returns-3 c = stop-full (c .before .before .before .before .before .before .before .before .before .before .before .before .before .before .args .board .now) (c .before .before .before .before .before .before .before .before .before .before .before .before .before .before .args .verdicts .now) (c .before .before .before .before .before .before .before .before .loop .inv) (c .before .before .before .before .before .before .before .if1 .left) (c .before .before .before .before .before .of .ensures) (c .before .before .before .if2 .left) (c .before .if3 .taken) (c .refused2 .result) (c .refused2 .ensures)
+returns-3 c =
+    let one = c .before .before .before .before .before .before .before in
+    let head = one .before in
+    let start = head .before .before .before .before .before .before in
+    stop-full (start .args .board .now) (start .args .verdicts .now) (head .loop .inv) (one .if1 .left)
+    (c .before .before .before .before .before .of .ensures) (c .before .before .before .if2 .left) (c .before .if3 .taken)
+    (c .refused2 .result) (c .refused2 .ensures)
 
 advance-requires : tie.Need-advance-requires Inv-loop μ-loop
 advance-requires c κs =
-    let few = c .before .before .before .before .before .before .before .before .before .loop .inv .reached .kept .few in
+    let one = c .before .before .before .before .before .before .before .before in
+    let head = one .before in
+    let few = head .loop .inv .reached .kept .few in
     let more = c .before .before .if3 .left in
-    (c .before .before .before .before .before .before .before .before .before .loop .inv .reached, (c .before .before .before .before .before .before .before .before .if1 .left, omega arith))
+    (head .loop .inv .reached, (one .if1 .left, omega arith))
 
 enum-known-finding : tie.Need-enum-known-finding Inv-loop μ-loop
 enum-known-finding c = search needs
 
 refused-requires-3 : tie.Need-refused-requires-3 Inv-loop μ-loop
-refused-requires-3 c κs = c .before .before .before .before .before .before .before .before .before .before .before .before .before .before .before .before .before .loop .inv .reached .kept .few
+refused-requires-3 c κs =
+    let head = c .before .before .before .before .before .before .before .before .before .before .before .before .before .before .before .before .before in
+    head .loop .inv .reached .kept .few
 
 same-length-7 : tie.Need-same-length-7 Inv-loop μ-loop
-same-length-7 c = c .before .before .before .before .before .before .before .before .advance .kept .1 .1 .0 ∙ c .before .before .before .before .before .before .before .before .before .before .before .before .before .before .before .before .before .before .loop .inv .index-size
+same-length-7 c =
+    let at-advance = c .before .before .before .before .before .before .before .before in
+    let head = at-advance .before .before .before .before .before .before .before .before .before .before in
+    at-advance .advance .kept .1 .1 .0 ∙ head .loop .inv .index-size
 
 same-length-8 : tie.Need-same-length-8 Inv-loop μ-loop
-same-length-8 c = c .before .before .before .before .before .before .before .before .advance .kept .1 .1 .1 .0 ∙ c .before .before .before .before .before .before .before .before .before .before .before .before .before .before .before .before .before .before .loop .inv .ballots-size
+same-length-8 c =
+    let at-advance = c .before .before .before .before .before .before .before .before in
+    let head = at-advance .before .before .before .before .before .before .before .before .before .before in
+    at-advance .advance .kept .1 .1 .1 .0 ∙ head .loop .inv .ballots-size
 
 returns-4 : tie.Need-returns-4 Inv-loop μ-loop
 returns-4 c =
-    let few = c .before .before .before .before .before .before .before .before .before .before .before .before .before .before .before .before .before .before .loop .inv .reached .kept .few in
-    let more = c .before .before .before .before .before .before .before .before .before .before .before .if3 .left in
-    stop-refused (c .before .before .before .before .before .before .before .before .before .before .before .before .before .before .before .before .before .before .before .before .before .before .before .before .args .board .now) (c .before .before .before .before .before .before .before .before .before .before .before .before .before .before .before .before .before .before .before .before .before .before .before .before .args .verdicts .now) (c .before .before .before .before .before .before .before .before .before .before .before .before .before .before .before .before .before .before .loop .inv) (c .before .before .before .before .before .before .before .before .before .before .before .before .before .before .before .before .before .if1 .left) (c .before .before .before .before .before .before .before .before .before .before .before .before .before .before .before .of .ensures) (c .before .before .before .before .before .before .before .before .before .before .before .before .before .if2 .left) (omega arith) (c .before .before .before .before .before .before .before .before .advance .ensures) _ (c .before .before .finding .given .1) (c .refused3 .result) (c .refused3 .ensures)
+    let at-advance = c .before .before .before .before .before .before .before .before in
+    let three = at-advance .before .before .before in
+    let two = three .before .before in
+    let at-of = two .before .before in
+    let one = at-of .before .before in
+    let head = one .before in
+    let start = head .before .before .before .before .before .before in
+    let few = head .loop .inv .reached .kept .few in
+    let more = three .if3 .left in
+    stop-refused (start .args .board .now) (start .args .verdicts .now) (head .loop .inv) (one .if1 .left) (at-of .of .ensures)
+    (two .if2 .left) (omega arith) (at-advance .advance .ensures) _ (c .before .before .finding .given .1) (c .refused3 .result)
+    (c .refused3 .ensures)
 
 enum-told : tie.Need-enum-told Inv-loop μ-loop
 enum-told c = search needs
 
 loop-less : tie.Need-loop-less Inv-loop μ-loop
 loop-less c =
-    let few = c .before .before .before .before .before .before .before .before .before .before .before .before .before .before .before .before .before .loop .inv .reached .kept .few in
-    let more = c .before .before .before .before .before .before .before .before .before .before .if3 .left in
-    going-less (c .before .before .before .before .before .before .before .before .before .before .before .before .before .before .before .before .before .before .before .before .before .before .before .args .board .now) (c .before .before .before .before .before .before .before .before .before .before .before .before .before .before .before .before .before .before .before .before .before .before .before .args .verdicts .now) (c .before .before .before .before .before .before .before .before .before .before .before .before .before .before .before .before .before .loop .inv) (c .before .before .before .before .before .before .before .before .before .before .before .before .before .before .before .before .if1 .left) (c .before .before .before .before .before .before .before .before .before .before .before .before .before .before .of .ensures) (c .before .before .before .before .before .before .before .before .before .before .before .before .if2 .left) (omega arith) (c .before .before .before .before .before .before .before .advance .ensures) (c .before .enum-told .given .1)
+    let at-advance = c .before .before .before .before .before .before .before in
+    let three = at-advance .before .before .before in
+    let two = three .before .before in
+    let at-of = two .before .before in
+    let one = at-of .before .before in
+    let head = one .before in
+    let start = head .before .before .before .before .before .before in
+    let few = head .loop .inv .reached .kept .few in
+    let more = three .if3 .left in
+    going-less (start .args .board .now) (start .args .verdicts .now) (head .loop .inv) (one .if1 .left) (at-of .of .ensures)
+    (two .if2 .left) (omega arith) (at-advance .advance .ensures) (c .before .enum-told .given .1)
 
 loop-again : tie.Need-loop-again Inv-loop μ-loop
 loop-again c =
-    let few = c .before .before .before .before .before .before .before .before .before .before .before .before .before .before .before .before .before .loop .inv .reached .kept .few in
-    let more = c .before .before .before .before .before .before .before .before .before .before .if3 .left in
-    going-on (c .before .before .before .before .before .before .before .before .before .before .before .before .before .before .before .before .before .before .before .before .before .before .before .args .board .now) (c .before .before .before .before .before .before .before .before .before .before .before .before .before .before .before .before .before .before .before .before .before .before .before .args .verdicts .now) (c .before .before .before .before .before .before .before .before .before .before .before .before .before .before .before .before .before .loop .inv) (c .before .before .before .before .before .before .before .before .before .before .before .before .before .before .before .before .if1 .left) (c .before .before .before .before .before .before .before .before .before .before .before .before .before .before .of .ensures) (c .before .before .before .before .before .before .before .before .before .before .before .before .if2 .left) (omega arith) (c .before .before .before .before .before .before .before .advance .ensures) (c .before .enum-told .given .1) (c .before .before .before .before .before .before .before .advance .kept .1 .1 .0) (c .before .before .before .before .before .before .before .advance .kept .1 .1 .1 .0)
+    let at-advance = c .before .before .before .before .before .before .before in
+    let three = at-advance .before .before .before in
+    let two = three .before .before in
+    let at-of = two .before .before in
+    let one = at-of .before .before in
+    let head = one .before in
+    let start = head .before .before .before .before .before .before in
+    let few = head .loop .inv .reached .kept .few in
+    let more = three .if3 .left in
+    going-on (start .args .board .now) (start .args .verdicts .now) (head .loop .inv) (one .if1 .left) (at-of .of .ensures) (two .if2 .left)
+    (omega arith) (at-advance .advance .ensures) (c .before .enum-told .given .1) (at-advance .advance .kept .1 .1 .0)
+    (at-advance .advance .kept .1 .1 .1 .0)
 
 pub run-spec : {M : Type 1} → statement M
 run-spec =

@@ -11,7 +11,10 @@ enum-known-judged : tie.Need-enum-known-judged
 enum-known-judged c = search needs
 
 pass-requires : tie.Need-pass-requires
-pass-requires c κs = (c .before .before .before .before .before .before .before .before .before .before .before .before .pre .0, judged-passing (c .before .before .before .before .before .before .before .before .before .before .before .before .args .board .now) (c .before .before .before .before .before .before .before .before .before .before .before .before .args .verdicts .now) (c .before .before .before .before .before .before .before .before .before .before .before .before .args .index .now) (c .before .before .before .before .before .before .before .before .before .before .before .before .args .s) _ (c .before .before .before .before .before .judge .ensures) _ (c .before .before .before .judged .given .1))
+pass-requires c κs =
+    let start = c .before .before .before .before .before .before .before .before .before .before .before .before in
+    let x = start .args in
+    (start .pre .0, judged-passing (x .board .now) (x .verdicts .now) (x .index .now) (x .s) _ (c .before .before .before .before .before .judge .ensures) _ (c .before .before .before .judged .given .1))
 
 enum-known-judged-2 : tie.Need-enum-known-judged-2
 enum-known-judged-2 c = search needs
@@ -23,7 +26,13 @@ same-length-2 : tie.Need-same-length-2
 same-length-2 c = search needs
 
 returns : tie.Need-returns
-returns c = stepped-passes (c .before .before .before .before .before .before .before .before .before .before .before .before .before .before .before .before .before .args .board .now) (c .before .before .before .before .before .before .before .before .before .before .before .before .before .before .before .before .before .args .verdicts .now) (c .before .before .before .before .before .before .before .before .before .before .before .before .before .before .before .before .before .args .index .now) (c .before .before .before .before .before .before .before .before .before .before .before .before .before .before .before .before .before .args .s) _ (c .before .before .before .before .before .before .before .before .before .before .judge .ensures) _ (c .before .before .before .before .before .before .before .before .judged .given .1) _ _ _ _ (c .before .before .before .before .pass .ensures)
+returns c =
+    let at-judged = c .before .before .before .before .before .before .before .before in
+    let at-judge = at-judged .before .before in
+    let start = at-judge .before .before .before .before .before .before .before in
+    let x = start .args in
+    stepped-passes (x .board .now) (x .verdicts .now) (x .index .now) (x .s) _ (at-judge .judge .ensures) _
+    (at-judged .judged .given .1) _ _ _ _ (c .before .before .before .before .pass .ensures)
 
 same-length-3 : tie.Need-same-length-3
 same-length-3 c = search needs
@@ -32,7 +41,11 @@ same-length-4 : tie.Need-same-length-4
 same-length-4 c = search needs
 
 returns-2 : tie.Need-returns-2
-returns-2 c = stepped-fails (c .before .before .before .before .before .before .before .before .before .before .args .board .now) (c .before .before .before .before .before .before .before .before .before .before .args .verdicts .now) (c .before .before .before .before .before .before .before .before .before .before .args .index .now) (c .before .before .before .before .before .before .before .before .before .before .args .s) _ (c .before .before .before .judge .ensures) _ (c .before .judged2 .given .1) _
+returns-2 c =
+    let start = c .before .before .before .before .before .before .before .before .before .before in
+    let x = start .args in
+    stepped-fails (x .board .now) (x .verdicts .now) (x .index .now) (x .s) _ (c .before .before .before .judge .ensures) _
+    (c .before .judged2 .given .1) _
 
 pub advance-spec : {M : Type 1} → statement M
 advance-spec =

@@ -11,7 +11,9 @@ after-requires-2 : tie.Need-after-requires-2
 after-requires-2 c κs = search needs
 
 put-requires : tie.Need-put-requires
-put-requires c κs = (c .before .before .before .before .before .before .before .before .before .before .before .pre .1, mains-before (c .before .before .before .before .before .before .before .before .before .before .before .pre .0 .stands))
+put-requires c κs =
+    let start = c .before .before .before .before .before .before .before .before .before .before .before in
+    (start .pre .1, mains-before (start .pre .0 .stands))
 
 same-length : tie.Need-same-length
 same-length c = search needs
@@ -21,8 +23,10 @@ same-length-2 c = search needs
 
 returns : tie.Need-returns
 returns c =
+    let at-after = c .before .before .before .before .before .before .before .before in
+    let start = at-after .before .before .before .before .before .before in
     let next = c .before .before .before .before .after2 .ensures in
-    (next .0, reached-next (c .before .before .before .before .before .before .before .before .before .before .before .before .before .before .args .s) (next .0) (c .before .before .put .ensures) (next .1) (c .before .before .before .before .before .before .before .before .after .ensures .0))
+    (next .0, reached-next (start .args .s) (next .0) (c .before .before .put .ensures) (next .1) (at-after .after .ensures .0))
 
 pub pass-spec : {M : Type 1} → statement M
 pass-spec =

@@ -23,7 +23,10 @@ enum-told-3 : tie.Need-enum-told-3
 enum-told-3 c = search needs
 
 returns-2 : tie.Need-returns-2
-returns-2 c = first-rules _ _ _ _ _ _ (found-some (c .enum-told3 .given .1)) (found-none (c .before .before .before .enum-told2 .given .1) (c .before .before .before .before .before .links-finding .ensures _)) (c .before .before .rules-finding .ensures _)
+returns-2 c =
+    first-rules _ _ _ _ _ _ (found-some (c .enum-told3 .given .1))
+    (found-none (c .before .before .before .enum-told2 .given .1) (c .before .before .before .before .before .links-finding .ensures _))
+    (c .before .before .rules-finding .ensures _)
 
 enum-told-4 : tie.Need-enum-told-4
 enum-told-4 c = search needs
@@ -32,7 +35,11 @@ verdict-finding-requires : tie.Need-verdict-finding-requires
 verdict-finding-requires c κs = search needs
 
 returns-3 : tie.Need-returns-3
-returns-3 c = first-verdict _ _ _ _ _ _ (found-none (c .before .before .before .before .enum-told2 .given .1) (c .before .before .before .before .before .before .links-finding .ensures _)) (found-none (c .before .enum-told4 .given .1) (c .before .before .before .rules-finding .ensures _)) (c .verdict-finding .ensures)
+returns-3 c =
+    let at-links-finding = c .before .before .before .before .before .before in
+    first-verdict _ _ _ _ _ _
+    (found-none (c .before .before .before .before .enum-told2 .given .1) (at-links-finding .links-finding .ensures _))
+    (found-none (c .before .enum-told4 .given .1) (c .before .before .before .rules-finding .ensures _)) (c .verdict-finding .ensures)
 
 pub item-finding-spec : {M : Type 1} → statement M
 item-finding-spec =

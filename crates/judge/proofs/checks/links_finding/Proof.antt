@@ -2,6 +2,8 @@
 use mathlib.Core.Path.{_≡_, ap, _∙_}
 use mathlib.Core.Bool.{true}
 use borrow.Author.Needs.{needs}
+use Rattle.model.specs.Item.{Item}
+use Rattle.model.specs.History.{History}
 use Rattle.model.specs.Links.{addressOk, previousOk, parentOk}
 use Rattle.format.specs.Base.{base}
 use Rattle.format.specs.Table.{parentRuleOf}
@@ -11,21 +13,39 @@ use Rattle.judge.proofs.Item.{at-own, at-read}
 use Rattle.judge.proofs.checks.links_finding.Statement.{statement}
 use Rattle.judge.proofs.checks.links_finding.Tie as tie
 
--- what each check that was met shows
-address-met : (c : tie.Else1) → addressOk base (itemAfter (c .before .before .before .before .args .board .now) (c .before .before .before .before .args .s .items)) ≡ true
-address-met c = met (c .before .address-ok .ensures ∙ ap (addressOk base) (at-read (c .before .before .before .before .pre .0))) (c .if1 .left)
+-- where each check began
+abbrev start-1 : tie.Else1 → tie.Start
+start-1 c = c .before .before .before .before
 
-previous-met : (c : tie.Else2) → previousOk base (before (c .before .before .before .before .before .before .args .board .now) (c .before .before .before .before .before .before .args .s .items)) (itemAfter (c .before .before .before .before .before .before .args .board .now) (c .before .before .before .before .before .before .args .s .items)) ≡ true
+abbrev start-2 : tie.Else2 → tie.Start
+start-2 c = start-1 (c .before .before)
+
+abbrev start-3 : tie.Else3 → tie.Start
+start-3 c = start-2 (c .before .before)
+
+abbrev history : tie.Start → History
+history s = before (s .args .board .now) (s .args .s .items)
+
+abbrev item : tie.Start → Item
+item s = itemAfter (s .args .board .now) (s .args .s .items)
+
+-- what each check that was met shows
+address-met : (c : tie.Else1) → addressOk base (item (start-1 c)) ≡ true
+address-met c = met (c .before .address-ok .ensures ∙ ap (addressOk base) (at-read (start-1 c .pre .0))) (c .if1 .left)
+
+previous-met : (c : tie.Else2) → previousOk base (history (start-2 c)) (item (start-2 c)) ≡ true
 previous-met c = met (c .before .previous-ok .ensures) (c .if2 .left)
 
-parent-met : (c : tie.Else3) → parentOk base (before (c .before .before .before .before .before .before .before .before .args .board .now) (c .before .before .before .before .before .before .before .before .args .s .items)) (parentRuleOf (c .before .before .before .before .before .before .before .before .args .row .parent)) (itemAfter (c .before .before .before .before .before .before .before .before .args .board .now) (c .before .before .before .before .before .before .before .before .args .s .items)) ≡ true
+parent-met : (c : tie.Else3) → parentOk base (history (start-3 c)) (parentRuleOf (start-3 c .args .row .parent)) (item (start-3 c)) ≡ true
 parent-met c = met (c .before .parent-ok .ensures) (c .if3 .left)
 
 address-ok-requires : tie.Need-address-ok-requires
 address-ok-requires c κs = at-own (c .before .before .pre .0)
 
 returns : tie.Need-returns
-returns c v = links-address _ _ v _ _ (unmet (c .before .address-ok .ensures ∙ ap (addressOk base) (at-read (c .before .before .before .before .pre .0))) (c .if1 .taken))
+returns c v =
+    let start = c .before .before .before .before in
+    links-address _ _ v _ _ (unmet (c .before .address-ok .ensures ∙ ap (addressOk base) (at-read (start .pre .0))) (c .if1 .taken))
 
 previous-ok-requires : tie.Need-previous-ok-requires
 previous-ok-requires c κs = search needs
@@ -37,16 +57,22 @@ parent-ok-requires : tie.Need-parent-ok-requires
 parent-ok-requires c κs = search needs
 
 returns-3 : tie.Need-returns-3
-returns-3 c v = links-parent _ _ v _ _ (address-met (c .before .before .before .before)) (previous-met (c .before .before)) (unmet (c .before .parent-ok .ensures) (c .if3 .taken))
+returns-3 c v =
+    links-parent _ _ v _ _ (address-met (c .before .before .before .before)) (previous-met (c .before .before))
+    (unmet (c .before .parent-ok .ensures) (c .if3 .taken))
 
 time-ok-requires : tie.Need-time-ok-requires
 time-ok-requires c κs = search needs
 
 returns-4 : tie.Need-returns-4
-returns-4 c v = links-time _ _ v _ _ (address-met (c .before .before .before .before .before .before)) (previous-met (c .before .before .before .before)) (parent-met (c .before .before)) (unmet (c .before .time-ok .ensures) (c .if4 .taken))
+returns-4 c v =
+    links-time _ _ v _ _ (address-met (c .before .before .before .before .before .before))
+    (previous-met (c .before .before .before .before)) (parent-met (c .before .before)) (unmet (c .before .time-ok .ensures) (c .if4 .taken))
 
 returns-5 : tie.Need-returns-5
-returns-5 c v = links-met _ _ v _ _ (address-met (c .before .before .before .before .before .before)) (previous-met (c .before .before .before .before)) (parent-met (c .before .before)) (met (c .before .time-ok .ensures) (c .if4 .left))
+returns-5 c v =
+    links-met _ _ v _ _ (address-met (c .before .before .before .before .before .before)) (previous-met (c .before .before .before .before))
+    (parent-met (c .before .before)) (met (c .before .time-ok .ensures) (c .if4 .left))
 
 pub links-finding-spec : {M : Type 1} → statement M
 links-finding-spec =

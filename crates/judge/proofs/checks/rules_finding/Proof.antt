@@ -14,16 +14,23 @@ only-ok-requires : tie.Need-only-ok-requires
 only-ok-requires c κs = search needs
 
 returns-2 : tie.Need-returns-2
-returns-2 c v = rules-only _ _ v _ _ (met (c .before .before .before .phase-ok .ensures) (c .before .before .if1 .left)) (unmet (c .before .only-ok .ensures) (c .if2 .taken))
+returns-2 c v =
+    rules-only _ _ v _ _ (met (c .before .before .before .phase-ok .ensures) (c .before .before .if1 .left))
+    (unmet (c .before .only-ok .ensures) (c .if2 .taken))
 
 content-ok-requires : tie.Need-content-ok-requires
 content-ok-requires c κs = search needs
 
 returns-3 : tie.Need-returns-3
-returns-3 c v = rules-content _ _ v _ _ (met (c .before .before .before .before .before .phase-ok .ensures) (c .before .before .before .before .if1 .left)) (met (c .before .before .before .only-ok .ensures) (c .before .before .if2 .left)) (unmet (c .before .content-ok .ensures) (c .if3 .taken))
+returns-3 c v =
+    rules-content _ _ v _ _
+    (met (c .before .before .before .before .before .phase-ok .ensures) (c .before .before .before .before .if1 .left))
+    (met (c .before .before .before .only-ok .ensures) (c .before .before .if2 .left)) (unmet (c .before .content-ok .ensures) (c .if3 .taken))
 
 returns-4 : tie.Need-returns-4
-returns-4 c v = rules-met _ _ v _ _ (met (c .before .before .before .before .before .phase-ok .ensures) (c .before .before .before .before .if1 .left)) (met (c .before .before .before .only-ok .ensures) (c .before .before .if2 .left)) (met (c .before .content-ok .ensures) (c .if3 .left))
+returns-4 c v =
+    rules-met _ _ v _ _ (met (c .before .before .before .before .before .phase-ok .ensures) (c .before .before .before .before .if1 .left))
+    (met (c .before .before .before .only-ok .ensures) (c .before .before .if2 .left)) (met (c .before .content-ok .ensures) (c .if3 .left))
 
 pub rules-finding-spec : {M : Type 1} → statement M
 rules-finding-spec =
