@@ -54,8 +54,8 @@ reportText-textOf f (accepted h) table u =
     textFrom-accepted 0 _ _ _ _ _ refl
     ∙ rw (rows-first (length table) (ballotRow * length (counted h)) (ballotRows (counted h)) (length-ballotRows (counted h)))
 
--- a refusal for the sizes, and none
-pub sized-refused : (n : ℕ) (o : Outcome) → (n ≡ 0 → ⊥) → textOf (sized n o) ≡ refusedLine n 0
+-- a refusal for the sizes
+pub textFrom-sized : (n : ℕ) (o : Outcome) (table : List ℕ) → (n ≡ 0 → ⊥) → textFrom n 0 0 0 0 table ≡ textOf (sized n o)
 unfolding sized textOf
-sized-refused zero o h = absurd (h refl)
-sized-refused (suc n) o h = refl
+textFrom-sized zero o table h = absurd (h refl)
+textFrom-sized (suc n) o table h = textFrom-refused (suc n) 0 0 0 0 table h

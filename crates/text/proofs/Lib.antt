@@ -4,3 +4,4 @@ pub mod Digits
 pub mod Lines
 pub mod Rows
 pub mod Answer
+pub mod Files

@@ -5,9 +5,9 @@ use native.Mathlib.Numerals.{add-one}
 use native.Mathlib.Omega.{arith}
 use mathlib.Core.Path.{_≡_, refl, sym, ap, _∙_}
 use mathlib.Core.List.{List, [], _∷_, _++_}
-use lib.ListN.{length, take, drop, getD, set, length-append}
+use lib.ListN.{length, take, getD, set, length-append}
 use lib.Seq.{sets, sets-eq, length-sets, take-suc}
-use Rattle.text.specs.Put.{Put}
+use Rattle.text.specs.Put.{Put, Shown}
 
 sets-append : (l : List ℕ) (i : ℕ) (a b : List ℕ) → sets l i (a ++ b) ≡ sets (sets l i a) (i + length a) b
 sets-append l i [] b = rw add-zero
@@ -39,7 +39,7 @@ pub put-more : {l m : List ℕ} {i : ℕ} (s : List ℕ) (k : ℕ) → k < lengt
 put-more {l} {m} {i} s k h r p = rw (← add-assoc, add-one k, take-suc s k 0 h) (put-then p (put-byte m (i + k) (getD s k 0) r))
 
 -- text at the start
-pub put-start : {l m : List ℕ} {s : List ℕ} {k : ℕ} → Put l 0 s m k → (k ≡ length s) × (m ≡ s ++ drop k l)
+pub put-start : {l m : List ℕ} {s : List ℕ} {k : ℕ} → Put l 0 s m k → Shown l s m k
 put-start {l} {m} {s} {k} p =
     let e : k ≡ length s = p .behind ∙ zero-add (length s) in
-    (e, p .wrote ∙ sets-eq s l 0 (p .fits) ∙ rw (e, zero-add))
+    record { end = e; bytes = p .wrote ∙ sets-eq s l 0 (p .fits) ∙ rw (e, zero-add) }

@@ -1,10 +1,9 @@
 // What the program prints, as bytes in a buffer that the caller lends, and the sizes of files that it refuses.
-ghost use mathlib.Core.Path.{_≡_};
-ghost use mathlib.Core.List.{_++_};
 ghost use Prim.Native.Nat.{_+_, _*_, _≤_};
-ghost use lib.ListN.{length, drop};
+ghost use lib.ListN.{length};
 ghost use Rattle.model.specs.Audit.{ballotRow};
 ghost use Rattle.text.specs.Answer.{textFrom};
+ghost use Rattle.text.specs.Put.{Shown};
 use line::LINE;
 
 pub mod line;
@@ -23,8 +22,7 @@ pub fn text_of(
 ) -> usize
     requires room { do ⌜ (← ⟦LINE⟧) * (1 + ballots) ≤ length (now out) ⌝ }
     requires rows { ⌜ ballotRow * ballots ≤ length (now table) ⌝ }
-    ensures end { λ r. ⌜ r ≡ length (textFrom number items mains ballots weight (now (table .entry))) ⌝ }
-    ensures bytes { λ r. ⌜ now (out .exit) ≡ textFrom number items mains ballots weight (now (table .entry)) ++ drop r (now (out .entry)) ⌝ }
+    ensures { λ r. ⌜ Shown (now (out .entry)) (textFrom number items mains ballots weight (now (table .entry))) (now (out .exit)) r ⌝ }
 {
     if number != 0 {
         return line::refused_line(out, number, items);
