@@ -1,0 +1,2 @@
+-- What the program answers for its files.
+pub mod Read
