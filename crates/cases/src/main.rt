@@ -4,7 +4,6 @@
 ghost use Prim.Native.Nat.{_≤_};
 ghost use Rattle.io.specs.Counts.{Counts};
 use audit::report::Answer;
-use audit::report::Report;
 use format::limit::Limit;
 use libc::STDOUT_FILENO;
 
