@@ -2,7 +2,6 @@
 // through the index tables that their audits left.
 ghost use mathlib.Core.Path.{_≡_};
 ghost use Prim.Native.Nat.{_≤_};
-ghost use lib.ListN.{length};
 ghost use Rattle.model.specs.Lists.{count};
 ghost use Rattle.model.specs.Words.{sameWords};
 ghost use Rattle.model.specs.Item.{itemAt, hashed};

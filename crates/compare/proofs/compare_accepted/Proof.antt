@@ -1,7 +1,7 @@
 -- `compare_accepted` meets its contract: 19 by the main number, and else what the pairs say. Assumes nothing.
 use native.Mathlib.Omega.{arith}
-use borrow.Author.Needs.{needs}
 use mathlib.Core.Path.{_∙_}
+use borrow.Author.Needs.{needs}
 use Rattle.compare.proofs.Answering.{none-zero, none-past, some-asked, pairs-kept, pairs-later, pairs-found}
 use Rattle.compare.proofs.compare_accepted.Statement.{statement}
 use Rattle.compare.proofs.compare_accepted.Tie as tie
@@ -68,7 +68,8 @@ compare-accepted-spec =
     no-such-requires
     returns
     wide-requires
-    no-such-requires-2 returns-2
+    no-such-requires-2
+    returns-2
     wide-requires-2
     wide-requires-3
     wide-requires-4
