@@ -6,7 +6,8 @@ ghost use lib.ListN.{length, replicate};
 ghost use lib.Dec.{ltb};
 ghost use Rattle.model.specs.Audit.{audit, accepted, isShort};
 ghost use Rattle.model.specs.Report.{indexAfter, ballotsAfter};
-ghost use Rattle.model.specs.Ancestry.{listNeed, ancestryAudit, ancestryAnswer, listAfter};
+ghost use Rattle.model.specs.Refusal.{noSuchItem};
+ghost use Rattle.model.specs.Ancestry.{listNeed, unlisted, ancestryAudit, ancestryAnswer, listAfter};
 ghost use Rattle.format.specs.Base.{base};
 ghost use Rattle.index.specs.Kept.{before, Kept};
 ghost use Rattle.ancestry.specs.Answer.{answerOf, Sized};
@@ -34,6 +35,16 @@ fn is_short(index: &[u32], ballots: &[u32], list: &[u32]) -> bool
     list.len() < Limit::ITEMS
 }
 
+// 19 no such point, with all items passed.
+fn no_such(items: u32) -> Listing
+    ensures { λ r. ⌜ answerOf r ≡ unlisted noSuchItem items ⌝ }
+{
+    Listing::Refused {
+        refusal: Refusal::NoSuchItem,
+        items,
+    }
+}
+
 // Lists the ancestry of an item of a board that was accepted, in a list of zeros.
 fn list_accepted(
     board: &[u32],
@@ -47,22 +58,16 @@ fn list_accepted(
     ensures answer { λ r. ⌜ answerOf r ≡ ancestryAnswer (accepted (before (now (board .entry)) items)) number ⌝ }
     ensures list { λ _. ⌜ now (list .exit) ≡ listAfter (accepted (before (now (board .entry)) items)) number (now (list .entry)) ⌝ }
 {
-    // 19 no such point: item number 0, or past the last
+    // item number 0, or past the last
     if number == 0 {
-        return Listing::Refused {
-            refusal: Refusal::NoSuchItem,
-            items,
-        };
+        return no_such(items);
     }
     let count = words::wide(items);
     if count < number {
-        return Listing::Refused {
-            refusal: Refusal::NoSuchItem,
-            items,
-        };
+        return no_such(items);
     }
-    let written = climb::climb(board, index, count, number, list, 0);
-    Listing::Listed(written as u32)
+    let written = climb::climb(board, index, count, number, list, 0) as u32;
+    Listing::Listed(written)
 }
 
 // Audits a board and lists an item's ancestry, where the board is within the word limit and all three buffers are long enough.

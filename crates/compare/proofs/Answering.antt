@@ -4,7 +4,6 @@ use native.Mathlib.Omega.{arith}
 use mathlib.Core.Path.{_≡_, sym, ap, _∙_}
 use mathlib.Core.Logic.{_≢_}
 use mathlib.Core.List.{List}
-use lib.ListN.{length}
 use lib.Dec.{T, eqb, ltb, lt→ltb}
 use Rattle.model.specs.Lists.{count}
 use Rattle.model.specs.Refusal.{noSuchItem}
@@ -13,7 +12,6 @@ use Rattle.model.specs.Audit.{Outcome, accepted}
 use Rattle.model.specs.Report.{outside}
 use Rattle.model.specs.Compare.{Comparison, compare}
 use Rattle.model.specs.Comparing.{ComparingAnswer, keptBoard, laterBoard, refusedBoard, compared, answerLater, comparingAnswer, laterAfter}
-use Rattle.model.specs.Sound.{Sound}
 use Rattle.model.proofs.Tests.{tests, neither, or-left, or-right, eq→eqb, if-yes, if-no}
 use Rattle.model.proofs.Lists.{count-keep}
 use Rattle.model.proofs.Entries.{orderly}
@@ -22,7 +20,10 @@ use Rattle.model.proofs.Unchecked.{length-history}
 use Rattle.format.specs.Base.{base}
 use Rattle.index.specs.Kept.{before, Kept}
 use Rattle.pairs.specs.Reading.{Numbered}
-use Rattle.audit.proofs.Laws.{RefusedAs, unchanged, cleared}
+use Rattle.audit.specs.declared.report.Report.{Report}
+use Rattle.audit.specs.declared.report.Answer.the-variants as answer
+use Rattle.audit.proofs.Whole.{Audited}
+use Rattle.audit.proofs.Laws.{accepted-sound, accepted-kept, accepted-mains, RefusedAs, unchanged, cleared}
 use Rattle.compare.specs.Answer.{Accepted}
 
 -- ---- two boards that were accepted: the kept board's history, and the later board's first items
@@ -64,12 +65,18 @@ pairs-found kept later number p q e f = p ∙ ap compared q ∙ rw (e, f)
 -- ---- by an audit's answer
 
 -- what is known of a board that was accepted
-pub accepted-board : {board verdicts index : List ℕ} {items mains : ℕ} → Sound base board verdicts (before board items)
-    → mains ≡ count main (before board items) → Kept board index items → Accepted board index items mains
-accepted-board {board} {items = items} sound mains kept =
+pub accepted-board : (board verdicts index ballots : List ℕ) (r : Report) {i b : List ℕ} → Audited board verdicts index ballots r i b
+    → {items mains n weight : ℕ} → r .answer ≡ answer.Accepted items mains n weight → Accepted board i items mains
+accepted-board board verdicts index ballots r audited {items} {mains} e =
     let h = before board items in
+    let sound = accepted-sound board verdicts index ballots r audited e in
+    let all : mains ≡ count main h = accepted-mains board verdicts index ballots r audited e in
     let opened = main-opened h (orderly (sound .passed)) (sound .opened) in
-    record { kept = kept; mains = mains; opened = omega (arith, count-keep main (λ e. e .item) h) }
+    record {
+      kept = accepted-kept board verdicts index ballots r audited e;
+      mains = all;
+      opened = omega (arith, count-keep main (λ e. e .item) h);
+    }
 
 pub later-refused : {o : Outcome} {n k : ℕ} (g : History) (number : ℕ) → RefusedAs o n k → refusedBoard laterBoard n k ≡ answerLater g o number
 unfolding answerLater

@@ -3,7 +3,8 @@ ghost use mathlib.Core.Path.{_≡_};
 ghost use lib.ListN.{length};
 ghost use Rattle.model.specs.Audit.{audit, accepted};
 ghost use Rattle.model.specs.Report.{indexAfter, ballotsAfter};
-ghost use Rattle.model.specs.Comparing.{compared, answerLater, comparingAnswer, laterIndexAfter, laterBallotsAfter};
+ghost use Rattle.model.specs.Refusal.{noSuchItem};
+ghost use Rattle.model.specs.Comparing.{laterBoard, refusedBoard, compared, answerLater, comparingAnswer, laterIndexAfter, laterBallotsAfter};
 ghost use Rattle.format.specs.Base.{base};
 ghost use Rattle.index.specs.Kept.{before};
 ghost use Rattle.pairs.specs.Agreement.{agreementOf};
@@ -47,6 +48,17 @@ fn found(agreement: Agreement) -> Comparison
     }
 }
 
+// 19 no such point, of the later board with its item count.
+fn no_such(items: u32) -> Comparison
+    ensures { λ r. ⌜ answerOf r ≡ refusedBoard laterBoard noSuchItem items ⌝ }
+{
+    Comparison::Refused {
+        board: Board::Later,
+        refusal: Refusal::NoSuchItem,
+        items,
+    }
+}
+
 // The answer for two boards that were accepted, each with its items and its main items.
 fn compare_accepted(
     kept: &[u32],
@@ -63,20 +75,12 @@ fn compare_accepted(
     requires { ⌜ Accepted (now later) (now «later_index») «later_items» «later_mains» ⌝ }
     ensures { λ r. ⌜ answerOf r ≡ answerLater (before (now (kept .entry)) «kept_items») (accepted (before (now (later .entry)) «later_items»)) number ⌝ }
 {
-    // 19 no such point: main number 0, or past the last
+    // main number 0, or past the last
     if number == 0 {
-        return Comparison::Refused {
-            board: Board::Later,
-            refusal: Refusal::NoSuchItem,
-            items: later_items,
-        };
+        return no_such(later_items);
     }
     if words::wide(later_mains) < number {
-        return Comparison::Refused {
-            board: Board::Later,
-            refusal: Refusal::NoSuchItem,
-            items: later_items,
-        };
+        return no_such(later_items);
     }
     found(pairs::compare(
         kept,

@@ -9,7 +9,6 @@ use lib.ListN.{length, getD}
 use borrow.Author.Tests.{ne-eqb}
 use Rattle.model.specs.Lists.{part}
 use Rattle.model.specs.Words.{sameWords, countOf}
-use Rattle.model.specs.Item as model
 use Rattle.model.specs.Item.{itemAt, itemLength, hashedLength, hashed}
 use Rattle.format.specs.declared.item.Item.{Item}
 use Rattle.format.specs.Base.{base}

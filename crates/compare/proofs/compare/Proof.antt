@@ -1,6 +1,6 @@
 -- `compare` meets its contract, by what the kept board's audit answered. Assumes nothing.
 use borrow.Author.Needs.{needs}
-use Rattle.audit.proofs.Laws.{accepted-outcome, accepted-sound, accepted-kept, accepted-mains, refused-outcome}
+use Rattle.audit.proofs.Laws.{accepted-outcome, refused-outcome}
 use Rattle.compare.proofs.Answering.{accepted-board, kept-refused, later-unchanged, kept-accepted, later-audited}
 use Rattle.compare.proofs.compare.Statement.{statement}
 use Rattle.compare.proofs.compare.Tie as tie
@@ -20,10 +20,7 @@ compare-later-requires c κs =
     let audited = matched .before .before .before .before .before .before in
     let s = audited .before .before .before .before .before .before .before .before .before .before .before .args in
     let r = audited .audit in
-    let given = matched .answer2 .given .1 in
-    let sound = accepted-sound (s .kept .now) (s .kept-verdicts .now) (s .kept-index .now) (s .kept-ballots .now) (r .result) (r .ensures) given in
-    let mains = accepted-mains (s .kept .now) (s .kept-verdicts .now) (s .kept-index .now) (s .kept-ballots .now) (r .result) (r .ensures) given in
-    accepted-board sound mains (accepted-kept (s .kept .now) (s .kept-verdicts .now) (s .kept-index .now) (s .kept-ballots .now) (r .result) (r .ensures) given)
+    accepted-board (s .kept .now) (s .kept-verdicts .now) (s .kept-index .now) (s .kept-ballots .now) (r .result) (r .ensures) (matched .answer2 .given .1)
 
 same-length : tie.Need-same-length
 same-length c = search needs

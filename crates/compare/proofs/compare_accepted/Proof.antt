@@ -1,20 +1,32 @@
 -- `compare_accepted` meets its contract: 19 by the main number, and else what the pairs say. Assumes nothing.
 use native.Mathlib.Omega.{arith}
+use mathlib.Core.Path.{_∙_}
 use borrow.Author.Needs.{needs}
 use Rattle.compare.proofs.Answering.{none-zero, none-past, some-asked, pairs-kept, pairs-later, pairs-found}
 use Rattle.compare.proofs.compare_accepted.Statement.{statement}
 use Rattle.compare.proofs.compare_accepted.Tie as tie
 
+no-such-requires : tie.Need-no-such-requires
+no-such-requires c κs = search needs
+
 returns : tie.Need-returns
-returns c = none-zero _ _ _ _ _ (c .before .before .before .before .before .pre .1 .mains) (c .if1 .taken)
+returns c =
+    let none = c .before in
+    let s = none .before .before .before .before .before in
+    c .no-such .ensures ∙ none-zero _ _ _ _ _ (s .pre .1 .mains) (none .if1 .taken)
 
 wide-requires : tie.Need-wide-requires
 wide-requires c κs = search needs
 
+no-such-requires-2 : tie.Need-no-such-requires-2
+no-such-requires-2 c κs = search needs
+
 returns-2 : tie.Need-returns-2
 returns-2 c =
-    let w = c .before .wide .ensures in
-    none-past _ _ _ _ _ (c .before .before .before .before .before .before .before .pre .1 .mains) (omega arith)
+    let past = c .before in
+    let s = past .before .before .before .before .before .before .before in
+    let w = past .before .wide .ensures in
+    c .no-such2 .ensures ∙ none-past _ _ _ _ _ (s .pre .1 .mains) (omega arith)
 
 wide-requires-2 : tie.Need-wide-requires-2
 wide-requires-2 c κs = search needs
@@ -53,8 +65,10 @@ pub compare-accepted-spec : {M : Type 1} → statement M
 compare-accepted-spec =
     tie.close
     (tie.spec
+    no-such-requires
     returns
     wide-requires
+    no-such-requires-2
     returns-2
     wide-requires-2
     wide-requires-3

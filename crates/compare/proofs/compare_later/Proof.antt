@@ -1,6 +1,6 @@
 -- `compare_later` meets its contract, by what the later board's audit answered. Assumes nothing.
 use borrow.Author.Needs.{needs}
-use Rattle.audit.proofs.Laws.{accepted-outcome, accepted-sound, accepted-kept, accepted-mains, refused-outcome}
+use Rattle.audit.proofs.Laws.{accepted-outcome, refused-outcome}
 use Rattle.compare.proofs.Answering.{accepted-board, later-refused, later-accepted}
 use Rattle.compare.proofs.compare_later.Statement.{statement}
 use Rattle.compare.proofs.compare_later.Tie as tie
@@ -21,10 +21,7 @@ compare-accepted-requires c κs =
     let start = audited .before .before .before .before .before .before .before .before .before in
     let s = start .args in
     let r = audited .audit in
-    let given = matched .answer2 .given .1 in
-    let sound = accepted-sound (s .later .now) (s .later-verdicts .now) (s .later-index .now) (s .later-ballots .now) (r .result) (r .ensures) given in
-    let mains = accepted-mains (s .later .now) (s .later-verdicts .now) (s .later-index .now) (s .later-ballots .now) (r .result) (r .ensures) given in
-    (start .pre, accepted-board sound mains (accepted-kept (s .later .now) (s .later-verdicts .now) (s .later-index .now) (s .later-ballots .now) (r .result) (r .ensures) given))
+    (start .pre, accepted-board (s .later .now) (s .later-verdicts .now) (s .later-index .now) (s .later-ballots .now) (r .result) (r .ensures) (matched .answer2 .given .1))
 
 same-length : tie.Need-same-length
 same-length c = search needs
