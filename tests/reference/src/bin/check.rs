@@ -272,13 +272,19 @@ fn cases(options: &Options, with: Option<Interface>) {
     if options.cases >= 5_000 && (missing > 0 || total.by_reason.len() < reasons) {
         fail("some refusal or reason was not made");
     }
-    if with.is_some() {
-        for (name, tally) in [("audit", total.audit), ("compare", total.compare), ("ancestry", total.ancestry)] {
-            println!(
-                "library    {name:<9} {} calls agree in every word: {}",
-                tally.iter().sum::<usize>(),
-                told(&tally)
-            );
+    if let Some(with) = with {
+        let entries = [
+            ("audit", true, total.audit),
+            ("compare", with.compare.is_some(), total.compare),
+            ("ancestry", with.ancestry.is_some(), total.ancestry),
+        ];
+        for (name, linked, tally) in entries {
+            if linked {
+                let calls = tally.iter().sum::<usize>();
+                println!("library    {name:<9} {calls} calls agree in every word: {}", told(&tally));
+            } else {
+                println!("library    {name:<9} SKIPPED: the library has no such entry");
+            }
         }
     }
 }
