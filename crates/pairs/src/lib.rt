@@ -121,9 +121,9 @@ pub fn compare(
     requires { ⌜ (Kept (now later) (now «later_index») «later_items») × (Numbered (now later) «later_items» b) ⌝ }
     ensures { λ r. ⌜ agreementOf r ≡ compare (mainItems (before (now (kept .entry)) «kept_items»)) (mainItems (before (now (later .entry)) «later_items»)) b ⌝ }
 {
-    let i = main_item(kept, kept_index, kept_items, a);
-    let j = main_item(later, later_index, later_items, b);
-    if !words::same_words(kept, i.address, later, j.address, Item::ADDRESS) {
+    let end = main_item(kept, kept_index, kept_items, a);
+    let asked = main_item(later, later_index, later_items, b);
+    if !words::same_words(kept, end.address, later, asked.address, Item::ADDRESS) {
         return Agreement::Apart;
     }
     backwards(

@@ -1,0 +1,2 @@
+-- The answer of comparing two boards, as the model names it.
+pub mod Answer
