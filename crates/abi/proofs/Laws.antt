@@ -16,7 +16,15 @@ use Rattle.model.specs.Audit.{audit}
 use Rattle.model.specs.Report as model
 use Rattle.model.specs.Report.{reportOf, indexAfter, ballotsAfter}
 use Rattle.format.specs.Base.{base}
-use Rattle.abi.specs.Answer.{headWords, answerWords, headOf, auditSize, overwritten, hasRoom, Audited}
+use Rattle.model.specs.Audit.{Outcome}
+use Rattle.model.specs.Compare.{apart, same, collision}
+use Rattle.model.specs.Comparing.{ComparingAnswer, refusedBoard, compared, comparingAnswer, laterIndexAfter, laterBallotsAfter}
+use Rattle.model.specs.Ancestry.{AncestryAnswer, unlisted, listed, ancestryAnswer, listAfter}
+use Rattle.compare.specs.declared.Comparison.{Comparison}
+use Rattle.compare.specs.Answer as comparing
+use Rattle.ancestry.specs.declared.Listing.{Listing}
+use Rattle.ancestry.specs.Answer as listing
+use Rattle.abi.specs.Answer.{headWords, answerWords, headOf, auditSize, overwritten, hasRoom, Audited, compareSize, comparisonWords, Compared, ancestrySize, listingWords, Listed}
 
 -- ---- words written one by one
 
@@ -62,13 +70,30 @@ report-put r l h e ne room p q =
     q ∙ rw (p, sets-append l h (r .end) 0 6 (omega arith), words)
     (sets-first l (h ++ r .end) (simp length-append (omega arith)))
 
--- ---- the entry
+-- ---- an answer of few words, written at once
+
+pub words-put : (words l : List ℕ) {a l′ : List ℕ} → a ≡ words → length words ≤ length l → l′ ≡ sets l 0 a → l′ ≡ overwritten words l
+words-put words l e room p = p ∙ rw e (sets-first l words room)
+
+pub length-comparisonWords : (a : ComparingAnswer) → length (comparisonWords a) ≡ compareSize
+unfolding comparisonWords
+length-comparisonWords (refusedBoard b n k) = refl
+length-comparisonWords (compared apart) = refl
+length-comparisonWords (compared same) = refl
+length-comparisonWords (compared (collision kept later)) = refl
+
+pub length-listingWords : (a : AncestryAnswer) → length (listingWords a) ≡ ancestrySize
+unfolding listingWords
+length-listingWords (unlisted n k) = refl
+length-listingWords (listed m) = refl
+
+-- ---- the entries
 
 module _ (board verdicts index ballots answer : List ℕ) where
   -- no room for the answer
   pub audited-short : length answer < auditSize → Audited board verdicts index ballots answer false index ballots answer
   audited-short h =
-      let no : hasRoom answer ≡ false = lt-leb auditSize (length answer) h in
+      let no : hasRoom auditSize answer ≡ false = lt-leb auditSize (length answer) h in
       record { is = sym no; report = rw no; indexRows = rw no; ballotRows = rw no }
 
   -- room: the words of the report, over the first of the answer
@@ -78,5 +103,34 @@ module _ (board verdicts index ballots answer : List ℕ) where
       → ballots′ ≡ ballotsAfter (audit base board verdicts (length index) (length ballots)) ballots
       → answer′ ≡ overwritten (answerWords (reported r)) answer → Audited board verdicts index ballots answer true index′ ballots′ answer′
   audited-told h r told ei eb ea =
-      let yes : hasRoom answer ≡ true = le-leb auditSize (length answer) h in
+      let yes : hasRoom auditSize answer ≡ true = le-leb auditSize (length answer) h in
       record { is = sym yes; report = rw yes (ea ∙ ap (λ (m : model.Report). overwritten (answerWords m) answer) told); indexRows = rw yes ei; ballotRows = rw yes eb }
+
+module _ (kept later : Outcome) (number : ℕ) (keptIndex keptBallots laterIndex laterBallots answer : List ℕ) where
+  pub compared-short : length answer < compareSize
+      → Compared kept later number keptIndex keptBallots laterIndex laterBallots answer false keptIndex keptBallots laterIndex laterBallots answer
+  compared-short h =
+      let no : hasRoom compareSize answer ≡ false = lt-leb compareSize (length answer) h in
+      record { is = sym no; comparison = rw no; keptIndexRows = rw no; keptBallotRows = rw no; laterIndexRows = rw no; laterBallotRows = rw no }
+
+  pub compared-told : compareSize ≤ length answer → (c : Comparison) → comparing.answerOf c ≡ comparingAnswer kept later number
+      → {ki kb li lb a : List ℕ} → ki ≡ indexAfter kept keptIndex → kb ≡ ballotsAfter kept keptBallots
+      → li ≡ laterIndexAfter kept later laterIndex → lb ≡ laterBallotsAfter kept later laterBallots
+      → a ≡ overwritten (comparisonWords (comparing.answerOf c)) answer
+      → Compared kept later number keptIndex keptBallots laterIndex laterBallots answer true ki kb li lb a
+  compared-told h c told eki ekb eli elb ea =
+      let yes : hasRoom compareSize answer ≡ true = le-leb compareSize (length answer) h in
+      record { is = sym yes; comparison = rw yes (ea ∙ ap (λ (x : ComparingAnswer). overwritten (comparisonWords x) answer) told); keptIndexRows = rw yes eki; keptBallotRows = rw yes ekb; laterIndexRows = rw yes eli; laterBallotRows = rw yes elb }
+
+module _ (outcome : Outcome) (number : ℕ) (index ballots list answer : List ℕ) where
+  pub listed-short : length answer < ancestrySize → Listed outcome number index ballots list answer false index ballots list answer
+  listed-short h =
+      let no : hasRoom ancestrySize answer ≡ false = lt-leb ancestrySize (length answer) h in
+      record { is = sym no; listing = rw no; indexRows = rw no; ballotRows = rw no; numbers = rw no }
+
+  pub listed-told : ancestrySize ≤ length answer → (l : Listing) → listing.answerOf l ≡ ancestryAnswer outcome number
+      → {i b n a : List ℕ} → i ≡ indexAfter outcome index → b ≡ ballotsAfter outcome ballots → n ≡ listAfter outcome number list
+      → a ≡ overwritten (listingWords (listing.answerOf l)) answer → Listed outcome number index ballots list answer true i b n a
+  listed-told h l told ei eb en ea =
+      let yes : hasRoom ancestrySize answer ≡ true = le-leb ancestrySize (length answer) h in
+      record { is = sym yes; listing = rw yes (ea ∙ ap (λ (x : AncestryAnswer). overwritten (listingWords x) answer) told); indexRows = rw yes ei; ballotRows = rw yes eb; numbers = rw yes en }

@@ -4,9 +4,14 @@ ghost use Prim.Native.Nat.{_+_, _/_, _%_, _^_, _≤_};
 ghost use lib.ListN.{length};
 ghost use lib.Seq.{sets};
 ghost use Rattle.audit.specs.Reported.{reported};
-ghost use Rattle.abi.specs.Answer.{auditSize, headOf, answerWords, overwritten};
+ghost use Rattle.compare.specs.Answer as comparing;
+ghost use Rattle.ancestry.specs.Answer as listed;
+ghost use Rattle.abi.specs.Answer.{auditSize, headOf, answerWords, overwritten, compareSize, boardWord, comparisonWords, ancestrySize, listingWords};
+use ancestry::Listing;
 use audit::report::Answer;
 use audit::report::Report;
+use compare::Board;
+use compare::Comparison;
 use format::item::Item;
 
 // Words of an answer.
@@ -17,6 +22,10 @@ impl Size {
     const HEAD: usize = 6;
 
     pub const AUDIT: usize = Size::HEAD + Item::ADDRESS;
+
+    pub const COMPARE: usize = 6;
+
+    pub const ANCESTRY: usize = 2;
 }
 
 // The high word of a number of two words.
@@ -70,4 +79,65 @@ pub fn put_report(report: Report, buffer: &mut [u32])
     let end = report.end;
     put(&head, buffer, 0);
     put(&end, buffer, Size::HEAD);
+}
+
+// The word of a board: 0 for the kept one, 1 for the later.
+fn board_word(board: Board) -> u32
+    ensures { λ r. ⌜ r ≡ boardWord (comparing.boardOf board) ⌝ }
+{
+    match board {
+        Board::Kept => 0,
+        Board::Later => 1,
+    }
+}
+
+// Kind, board, number, items, main number in the kept board, main number in the later one.
+fn comparison_words(comparison: Comparison) -> [u32; 6]
+    ensures { λ r. ⌜ r ≡ comparisonWords (comparing.answerOf comparison) ⌝ }
+{
+    match comparison {
+        Comparison::Refused {
+            board,
+            refusal,
+            items,
+        } => [
+            0,
+            board_word(board),
+            refusal::number_of(refusal),
+            items,
+            0,
+            0,
+        ],
+        Comparison::Apart => [1, 0, 0, 0, 0, 0],
+        Comparison::Same => [2, 0, 0, 0, 0, 0],
+        Comparison::Collision { kept, later } => [3, 0, 0, 0, kept, later],
+    }
+}
+
+// Writes the words of a comparison over the first of a buffer.
+pub fn put_comparison(comparison: Comparison, buffer: &mut [u32])
+    requires { ⌜ compareSize ≤ length (now buffer) ⌝ }
+    ensures { λ _. ⌜ now (buffer .exit) ≡ overwritten (comparisonWords (comparing.answerOf comparison)) (now (buffer .entry)) ⌝ }
+{
+    let words = comparison_words(comparison);
+    put(&words, buffer, 0);
+}
+
+// Number and items; of acceptance, 0 and how many numbers were written.
+fn listing_words(listing: Listing) -> [u32; 2]
+    ensures { λ r. ⌜ r ≡ listingWords (listed.answerOf listing) ⌝ }
+{
+    match listing {
+        Listing::Listed(written) => [0, written],
+        Listing::Refused { refusal, items } => [refusal::number_of(refusal), items],
+    }
+}
+
+// Writes the words of a listing over the first of a buffer.
+pub fn put_listing(listing: Listing, buffer: &mut [u32])
+    requires { ⌜ ancestrySize ≤ length (now buffer) ⌝ }
+    ensures { λ _. ⌜ now (buffer .exit) ≡ overwritten (listingWords (listed.answerOf listing)) (now (buffer .entry)) ⌝ }
+{
+    let words = listing_words(listing);
+    put(&words, buffer, 0);
 }
