@@ -18,7 +18,7 @@ fn main() {
     println!("cargo:rustc-link-lib=static={}", name.strip_prefix("lib").unwrap_or(name));
     let archive = fs::read(path).expect("the static library can be read");
     for entry in ["compare", "ancestry"] {
-        let symbol = format!("\0tirfolma_{entry}\0");
+        let symbol = format!("tirfolma_{entry}\0");
         if archive.windows(symbol.len()).any(|part| part == symbol.as_bytes()) {
             println!("cargo:rustc-cfg=has_{entry}");
         }

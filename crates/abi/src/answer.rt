@@ -52,7 +52,11 @@ fn head_words(answer: Answer) -> [u32; 6]
             mains,
             ballots,
             weight,
-        } => [0, items, mains, ballots, high(weight), low(weight)],
+        } => {
+            let h = high(weight);
+            let l = low(weight);
+            [0, items, mains, ballots, h, l]
+        }
         Answer::Refused { refusal, items } => [refusal::number_of(refusal), items, 0, 0, 0, 0],
     }
 }
