@@ -476,7 +476,9 @@ fn item_count(case: &Case) -> usize {
     case.verdicts.len() / VERDICT_WORDS
 }
 
+/// Nothing is tallied where the library has no such entry.
 pub fn check_ancestry(with: &Interface, case: &Case, random: &mut Random, tally: &mut Tally) -> Result<(), String> {
+    let Some(entry) = with.ancestry else { return Ok(()) };
     let mut index = Lent::new(lent_length(INDEX_NEED, random), random);
     let mut ballots = Lent::new(lent_length(BALLOTS_NEED, random), random);
     let mut list = Lent::new(lent_length(LIST_NEED, random), random);
@@ -495,7 +497,7 @@ pub fn check_ancestry(with: &Interface, case: &Case, random: &mut Random, tally:
     let (il, bl, ll, al) = (index.len(), ballots.len(), list.len(), answer.len());
     #[rustfmt::skip]
     let given = unsafe {
-        (with.ancestry)(
+        entry(
             words.as_ptr(), words.len(), verdicts.as_ptr(), verdicts.len(), number,
             index.pointer(), il, ballots.pointer(), bl, list.pointer(), ll, answer.pointer(), al)
     };
@@ -507,7 +509,9 @@ pub fn check_ancestry(with: &Interface, case: &Case, random: &mut Random, tally:
     ballots.same("ballot table").map_err(told)
 }
 
+/// Nothing is tallied where the library has no such entry.
 pub fn check_compare(with: &Interface, case: &Case, random: &mut Random, tally: &mut Tally) -> Result<(), String> {
+    let Some(entry) = with.compare else { return Ok(()) };
     let own = (&case.words, &case.verdicts);
     let other = (&case.other.0, &case.other.1);
     let (kept, later) = if case.kept { (own, other) } else { (other, own) };
@@ -541,7 +545,7 @@ pub fn check_compare(with: &Interface, case: &Case, random: &mut Random, tally: 
     let al = answer.len();
     #[rustfmt::skip]
     let given = unsafe {
-        (with.compare)(
+        entry(
             kept.0.as_ptr(), kept.0.len(), kept.1.as_ptr(), kept.1.len(),
             later.0.as_ptr(), later.0.len(), later.1.as_ptr(), later.1.len(), number,
             ki.pointer(), lengths[0], kb.pointer(), lengths[1],

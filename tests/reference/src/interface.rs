@@ -28,8 +28,9 @@ pub type AncestryEntry = unsafe extern "C" fn(
 #[derive(Clone, Copy)]
 pub struct Interface {
     pub audit: AuditEntry,
-    pub compare: CompareEntry,
-    pub ancestry: AncestryEntry,
+    /// None where the library has no such entry.
+    pub compare: Option<CompareEntry>,
+    pub ancestry: Option<AncestryEntry>,
 }
 
 /// Number, items, mains, ballots, weight (high first), end address.
@@ -51,7 +52,7 @@ pub fn compare_words(c: &Comparison) -> [u32; COMPARE_ANSWER] {
     }
 }
 
-/// The static library's entries, where it is linked.
+/// The static library's entries, where it is linked. `build.rs` sees which it has.
 #[cfg(feature = "library")]
 pub fn library() -> Option<Interface> {
     #[rustfmt::skip]
@@ -60,6 +61,7 @@ pub fn library() -> Option<Interface> {
             board: *const u32, board_len: usize, verdicts: *const u32, verdicts_len: usize,
             index: *mut u32, index_len: usize, ballots: *mut u32, ballots_len: usize,
             answer: *mut u32, answer_len: usize) -> bool;
+        #[cfg(has_compare)]
         fn tirfolma_compare(
             kept: *const u32, kept_len: usize, kept_verdicts: *const u32, kept_verdicts_len: usize,
             later: *const u32, later_len: usize, later_verdicts: *const u32, later_verdicts_len: usize,
@@ -67,13 +69,22 @@ pub fn library() -> Option<Interface> {
             kept_index: *mut u32, kept_index_len: usize, kept_ballots: *mut u32, kept_ballots_len: usize,
             later_index: *mut u32, later_index_len: usize, later_ballots: *mut u32, later_ballots_len: usize,
             answer: *mut u32, answer_len: usize) -> bool;
+        #[cfg(has_ancestry)]
         fn tirfolma_ancestry(
             board: *const u32, board_len: usize, verdicts: *const u32, verdicts_len: usize,
             item_number: usize,
             index: *mut u32, index_len: usize, ballots: *mut u32, ballots_len: usize,
             list: *mut u32, list_len: usize, answer: *mut u32, answer_len: usize) -> bool;
     }
-    Some(Interface { audit: tirfolma_audit, compare: tirfolma_compare, ancestry: tirfolma_ancestry })
+    #[cfg(has_compare)]
+    let compare: Option<CompareEntry> = Some(tirfolma_compare);
+    #[cfg(not(has_compare))]
+    let compare: Option<CompareEntry> = None;
+    #[cfg(has_ancestry)]
+    let ancestry: Option<AncestryEntry> = Some(tirfolma_ancestry);
+    #[cfg(not(has_ancestry))]
+    let ancestry: Option<AncestryEntry> = None;
+    Some(Interface { audit: tirfolma_audit, compare, ancestry })
 }
 
 #[cfg(not(feature = "library"))]
@@ -84,7 +95,7 @@ pub fn library() -> Option<Interface> {
 /// The reference behind the same interface. The checks must pass it, and must find each of
 /// the mistakes it can be told to make.
 pub fn stand_in() -> Interface {
-    Interface { audit: stand_in_audit, compare: stand_in_compare, ancestry: stand_in_ancestry }
+    Interface { audit: stand_in_audit, compare: Some(stand_in_compare), ancestry: Some(stand_in_ancestry) }
 }
 
 /// The mistake the stand-in makes: 0 is none.

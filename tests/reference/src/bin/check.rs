@@ -2,6 +2,7 @@
 //!
 //!   check [--boards FOLDER]... [--program FILE] [--cases N] [--seed N] [--dump FOLDER]
 //!   check --only GROUP SEED     one case again, as a failure names it
+//!   check --all-entries ..      a library that is not linked, or lacks an entry, is a failure
 //!   check --stand-in ..         the reference in the library's place, to try the harness
 
 use reference::checks::*;
@@ -26,6 +27,7 @@ struct Options {
     seed: u64,
     dump: PathBuf,
     stand_in: bool,
+    all_entries: bool,
     only: Option<(Group, u64)>,
 }
 
@@ -37,6 +39,7 @@ fn options() -> Options {
         seed: 0,
         dump: PathBuf::from("failed-case"),
         stand_in: false,
+        all_entries: false,
         only: None,
     };
     let mut args = std::env::args().skip(1);
@@ -50,6 +53,7 @@ fn options() -> Options {
             "--seed" => o.seed = number(value()),
             "--dump" => o.dump = PathBuf::from(value()),
             "--stand-in" => o.stand_in = true,
+            "--all-entries" => o.all_entries = true,
             "--only" => {
                 let group = group_named(&value()).unwrap_or_else(|| usage());
                 o.only = Some((group, number(value())));
@@ -82,6 +86,10 @@ fn main() {
         println!("library    STAND-IN: the reference is held against itself");
     } else if with.is_none() {
         println!("library    NOT LINKED: the reference is checked by itself only");
+    }
+    let whole = with.is_some_and(|with| with.compare.is_some() && with.ancestry.is_some());
+    if options.all_entries && !whole {
+        fail("the library is not linked, or lacks an entry");
     }
     cases(&options, with);
     match &options.program {
@@ -272,13 +280,19 @@ fn cases(options: &Options, with: Option<Interface>) {
     if options.cases >= 5_000 && (missing > 0 || total.by_reason.len() < reasons) {
         fail("some refusal or reason was not made");
     }
-    if with.is_some() {
-        for (name, tally) in [("audit", total.audit), ("compare", total.compare), ("ancestry", total.ancestry)] {
-            println!(
-                "library    {name:<9} {} calls agree in every word: {}",
-                tally.iter().sum::<usize>(),
-                told(&tally)
-            );
+    if let Some(with) = with {
+        let entries = [
+            ("audit", true, total.audit),
+            ("compare", with.compare.is_some(), total.compare),
+            ("ancestry", with.ancestry.is_some(), total.ancestry),
+        ];
+        for (name, linked, tally) in entries {
+            if linked {
+                let calls = tally.iter().sum::<usize>();
+                println!("library    {name:<9} {calls} calls agree in every word: {}", told(&tally));
+            } else {
+                println!("library    {name:<9} SKIPPED: the library has no such entry");
+            }
         }
     }
 }

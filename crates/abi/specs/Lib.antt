@@ -1,0 +1,2 @@
+-- What the entries for other languages answer.
+pub mod Answer

@@ -1,0 +1,72 @@
+/* Audits the board in a folder: examples/build, then target/examples/audit FOLDER
+   FOLDER has board.words and verdicts.words: each word four bytes, high byte first. The exit status is 0 for a board that is accepted, 1 for
+   one that is refused, 2 where a file can't be read. */
+#include "../include/tirfolma.h"
+
+#include <inttypes.h>
+#include <stdio.h>
+#include <stdlib.h>
+
+static void stop(const char *path, const char *why) {
+    fprintf(stderr, "%s: %s\n", path, why);
+    exit(2);
+}
+
+/* The words of a file, and how many they are. */
+static uint32_t *read_words(const char *folder, const char *name, size_t *count) {
+    char path[4096];
+    if (snprintf(path, sizeof path, "%s/%s", folder, name) >= (int)sizeof path) stop(folder, "the name is too long");
+    FILE *file = fopen(path, "rb");
+    if (!file) stop(path, "can't be opened");
+    size_t room = 1024;
+    uint32_t *words = malloc(room * sizeof *words);
+    unsigned char b[4];
+    size_t got;
+    *count = 0;
+    while (words && (got = fread(b, 1, 4, file)) == 4) {
+        if (*count == room) {
+            room *= 2;
+            words = realloc(words, room * sizeof *words);
+            if (!words) break;
+        }
+        words[(*count)++] = (uint32_t)b[0] << 24 | (uint32_t)b[1] << 16 | (uint32_t)b[2] << 8 | b[3];
+    }
+    if (!words) stop(path, "there is no memory for it");
+    if (ferror(file)) stop(path, "can't be read");
+    if (got != 0) stop(path, "the last word is not whole");
+    fclose(file);
+    return words;
+}
+
+int main(int argc, char **argv) {
+    if (argc != 2) {
+        fprintf(stderr, "usage: audit FOLDER\n");
+        return 2;
+    }
+    static uint32_t index[TIRFOLMA_INDEX_WORDS], ballots[TIRFOLMA_BALLOT_WORDS];
+    uint32_t answer[TIRFOLMA_AUDIT_WORDS];
+    size_t board_words, verdict_words;
+    uint32_t *board = read_words(argv[1], "board.words", &board_words);
+    uint32_t *verdicts = read_words(argv[1], "verdicts.words", &verdict_words);
+    if (!tirfolma_audit(board, board_words, verdicts, verdict_words, index, TIRFOLMA_INDEX_WORDS, ballots,
+                        TIRFOLMA_BALLOT_WORDS, answer, TIRFOLMA_AUDIT_WORDS))
+        abort(); /* the answer has its 14 words */
+    free(board);
+    free(verdicts);
+
+    uint32_t number = answer[TIRFOLMA_NUMBER];
+    if (number != 0) {
+        printf("refused %" PRIu32 " after %" PRIu32 " items\n", number, answer[TIRFOLMA_ITEMS]);
+        return 1;
+    }
+    uint64_t weight = (uint64_t)answer[TIRFOLMA_WEIGHT_HIGH] << 32 | answer[TIRFOLMA_WEIGHT_LOW];
+    printf("accepted: %" PRIu32 " items, %" PRIu32 " of them main, %" PRIu32 " counted ballots of weight %" PRIu64 "\n",
+           answer[TIRFOLMA_ITEMS], answer[TIRFOLMA_MAINS], answer[TIRFOLMA_BALLOTS], weight);
+    printf("end address");
+    for (int i = 0; i < 8; i++) printf(" %08" PRIx32, answer[TIRFOLMA_END + i]);
+    printf("\n");
+    for (uint32_t i = 0; i < answer[TIRFOLMA_BALLOTS]; i++)
+        printf("main item %" PRIu32 ": voter %" PRIu32 ", weight %" PRIu32 "\n", ballots[3 * i], ballots[3 * i + 1],
+               ballots[3 * i + 2]);
+    return 0;
+}

@@ -1,0 +1,133 @@
+/* The board auditor for programs in C, C++ and Rust: link libabi.a, which `rt staticlib abi` builds for x86-64 Linux.
+
+   Each function is proved, in crates/abi, to give for any words and any lengths what this page says. What no proof can see is the caller:
+   - A buffer is a pointer to 32-bit words, aligned as uint32_t, and their number. The words are there, and are initialised. Where the number
+     is 0, the pointer is not followed; it may not be null, so pass the address of any word.
+   - A buffer that is lent for writing overlaps no other buffer of the call. Those that are only read may overlap.
+   - No other thread writes a buffer, or reads one that is lent for writing, during the call.
+   The functions keep nothing, allocate nothing, and may be called from several threads at once. */
+#ifndef TIRFOLMA_H
+#define TIRFOLMA_H
+
+#include <stdbool.h>
+#include <stddef.h>
+#include <stdint.h>
+
+#ifdef __cplusplus
+extern "C" {
+#endif
+
+/* ---- audit */
+
+/* Words of the answer, of an index table for every board, and of a ballot table for every board. */
+#define TIRFOLMA_AUDIT_WORDS 14
+#define TIRFOLMA_INDEX_WORDS 8192
+#define TIRFOLMA_BALLOT_WORDS 6144
+
+/* Where the answer's words stand. */
+enum {
+    TIRFOLMA_NUMBER = 0,      /* 0: accepted; 1 to 18: the refusal */
+    TIRFOLMA_ITEMS = 1,       /* items; of a refusal, those that passed */
+    TIRFOLMA_MAINS = 2,       /* main items */
+    TIRFOLMA_BALLOTS = 3,     /* counted ballots */
+    TIRFOLMA_WEIGHT_HIGH = 4, /* their total weight, high word */
+    TIRFOLMA_WEIGHT_LOW = 5,  /* and low word */
+    TIRFOLMA_END = 6          /* eight words: the address of the last main item */
+};
+
+/* Audits a board with its verdict words.
+
+   True: the first 14 words of the answer are as above, of a refusal too (words 2 to 13 are then 0), and the words behind them are as they
+   were. The tables:
+     refusal 2, and 1 for more than 262144 words    every word as it was
+     any other refusal                              every word 0
+     accepted, the index table                      for each item: place of its head, parent's item number, session's item number
+                                                    (4294967295: none), main items before it; then zeros
+     accepted, the ballot table                     for each counted ballot: main number of the ballot, voter, weight; then zeros
+   An index table of fewer than 8192 words or a ballot table of fewer than 6144 is refused by 2.
+
+   False: the answer has fewer than 14 words. No word of any buffer is written.
+
+   Contract: `Audited` in crates/abi/specs/Answer.antt. */
+bool tirfolma_audit(
+    const uint32_t *board, size_t board_words,
+    const uint32_t *verdicts, size_t verdict_words,
+    uint32_t *index, size_t index_words,
+    uint32_t *ballots, size_t ballot_words,
+    uint32_t *answer, size_t answer_words);
+
+/* ---- compare */
+
+#define TIRFOLMA_COMPARE_WORDS 6
+
+/* Where the answer's words stand; those that a kind does not use are 0. */
+enum {
+    TIRFOLMA_KIND = 0,           /* one of the kinds below */
+    TIRFOLMA_BOARD = 1,          /* of a refusal: 0 for the kept board, 1 for the later one */
+    TIRFOLMA_COMPARE_NUMBER = 2, /* of a refusal: 1 to 19 */
+    TIRFOLMA_COMPARE_ITEMS = 3,  /* of a refusal: the items that passed */
+    TIRFOLMA_KEPT_MAIN = 4,      /* of a collision: the main number in the kept board */
+    TIRFOLMA_LATER_MAIN = 5      /* and in the later one */
+};
+
+enum {
+    TIRFOLMA_REFUSED = 0,
+    TIRFOLMA_APART = 1,    /* the kept board's end address does not stand at the item asked for */
+    TIRFOLMA_SAME = 2,     /* both boards have the same main items up to there */
+    TIRFOLMA_COLLISION = 3 /* two items with one address and different hashed words */
+};
+
+/* Audits a kept board, then a later one, each with its own tables, and compares all main items of the kept board with those of the later one
+   up to a main number of the later one. A number that the later board does not have is refusal 19, of the later board.
+
+   True: the first 6 words of the answer are as above, and the words behind them are as they were. Each board's tables are as tirfolma_audit
+   leaves them; the later board's are as they were if the kept one is refused, and both are filled under 19.
+   False: the answer has fewer than 6 words. No word of any buffer is written.
+
+   Contract: `Compared` in crates/abi/specs/Answer.antt. */
+bool tirfolma_compare(
+    const uint32_t *kept, size_t kept_words,
+    const uint32_t *kept_verdicts, size_t kept_verdict_words,
+    const uint32_t *later, size_t later_words,
+    const uint32_t *later_verdicts, size_t later_verdict_words,
+    size_t main_number,
+    uint32_t *kept_index, size_t kept_index_words,
+    uint32_t *kept_ballots, size_t kept_ballot_words,
+    uint32_t *later_index, size_t later_index_words,
+    uint32_t *later_ballots, size_t later_ballot_words,
+    uint32_t *answer, size_t answer_words);
+
+/* ---- ancestry */
+
+#define TIRFOLMA_ANCESTRY_WORDS 2
+#define TIRFOLMA_LIST_WORDS 2048
+
+/* Where the answer's words stand. */
+enum {
+    TIRFOLMA_ANCESTRY_NUMBER = 0, /* 0: listed; 1 to 19: the refusal */
+    TIRFOLMA_ANCESTRY_COUNT = 1   /* how many numbers were written; of a refusal, the items that passed */
+};
+
+/* Audits a board, then lists the item number that is asked for, that of the item's parent, and so on; genesis, 1, is the last. A number that
+   the board does not have is refusal 19. A list of fewer than 2048 words is refused by 2, as a table that is too short.
+
+   True: the two words of the answer are as above, and the words behind them are as they were. The tables are as tirfolma_audit leaves them.
+   The list has the numbers and then zeros; under refusal 2, and 1 for more than 262144 words, it is as it was, under any other all zero.
+   Under 2 for a list that is too short, the tables are as they were, too.
+   False: the answer has fewer than 2 words. No word of any buffer is written.
+
+   Contract: `Listed` in crates/abi/specs/Answer.antt. */
+bool tirfolma_ancestry(
+    const uint32_t *board, size_t board_words,
+    const uint32_t *verdicts, size_t verdict_words,
+    size_t item_number,
+    uint32_t *index, size_t index_words,
+    uint32_t *ballots, size_t ballot_words,
+    uint32_t *list, size_t list_words,
+    uint32_t *answer, size_t answer_words);
+
+#ifdef __cplusplus
+}
+#endif
+
+#endif
