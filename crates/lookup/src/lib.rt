@@ -131,6 +131,16 @@ fn is_child(e: Known, parent: usize, low: u32, high: u32) -> bool
     e.parent == parent
 }
 
+// The number from which on the children of a parent are sought: no item stands before its parent, and item numbers begin with 1.
+fn first_child(parent: usize) -> usize
+    ensures { λ r. ⌜ r ≡ (if eqb parent 0 then 1 else parent) ⌝ }
+{
+    if parent == 0 {
+        return 1;
+    }
+    parent
+}
+
 // Whether an item with a type in a range stands under a parent.
 pub fn has_child(
     board: &[u32],
@@ -143,7 +153,7 @@ pub fn has_child(
     requires { ⌜ Kept (now board) (now index) count ⌝ }
     ensures { λ r. ⌜ r ≡ any (childOf parent (between low high)) (before (now (board .entry)) count) ⌝ }
 {
-    let mut child = 1;
+    let mut child = first_child(parent);
     while child <= count {
         let e = index::entry(board, index, count, child);
         if is_child(e, parent, low, high) {
