@@ -1,4 +1,4 @@
-// Files read whole: the first bytes are kept, and all are counted.
+// Files read whole: the first bytes are kept, and all are counted. No contract can say what a call of the system read; the counts are bounded.
 ghost use Prim.Native.Nat.{_≤_, _^_};
 ghost use lib.ListN.{length};
 
@@ -33,6 +33,7 @@ fn skip_all(fd: i32) -> usize
 // Reads from where the file stands into the buffer, as far as it has room, and gives the bytes up to the file's end.
 fn read_from(fd: i32, buf: &mut [u8]) -> usize
     requires { ⌜ length (now buf) ≤ 2 ^ 56 ⌝ }
+    ensures { λ r. ⌜ r ≤ 2 ^ 57 ⌝ }
 {
     let first = io::read_full(fd, buf);
     if first < buf.len() {
@@ -45,6 +46,7 @@ fn read_from(fd: i32, buf: &mut [u8]) -> usize
 // that can't be read on ends there.
 pub fn read(path: &[u8], buf: &mut [u8]) -> usize
     requires { ⌜ length (now buf) ≤ 2 ^ 56 ⌝ }
+    ensures { λ r. ⌜ r ≤ 2 ^ 57 ⌝ }
 {
     let fd = os::open_read(path);
     if fd < 0 {
