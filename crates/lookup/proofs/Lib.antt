@@ -1,5 +1,6 @@
--- One step of each search, where the search for children begins, and the code's tests of an item as the model's.
+-- One step of each search, where the search for children begins, where addresses stand, and the code's tests of an item as the model's.
 pub mod Steps
 pub mod Children
+pub mod Addresses
 pub mod Views
 pub mod Numbers

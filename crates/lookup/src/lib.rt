@@ -9,16 +9,17 @@ ghost use Rattle.model.specs.Lists.{if_then_else_, part, any};
 ghost use Rattle.model.specs.Words.{mainKind, between};
 ghost use Rattle.model.specs.Codes.{sessionType};
 ghost use Rattle.model.specs.Item.{itemAt};
-ghost use Rattle.model.specs.History.{first, last, parentNumber, sessionNumber};
+ghost use Rattle.model.specs.History.{entry, first, last, parentNumber, sessionNumber};
 ghost use Rattle.model.specs.Phase.{sessionOf};
 ghost use Rattle.model.specs.Only.{childOf};
 ghost use Rattle.format.specs.Base.{base};
 ghost use Rattle.format.specs.Layout.{itemOf};
 ghost use Rattle.index.specs.Kept.{before, Kept};
 ghost use Rattle.index.specs.Known.{IsKnown};
-ghost use Rattle.lookup.specs.Search.{entryFrom, addressed, mainEntry};
+ghost use Rattle.lookup.specs.Search.{entryFrom, addressed, otherStart, mainEntry};
 use format::head::Head;
 use format::item::Item;
+use format::limit::Limit;
 use index::Known;
 
 // Whether the item is of a kind, main or hidden, and has the address that stands at a place of the board.
@@ -32,6 +33,34 @@ fn is_addressed(board: &[u32], e: Known, main: bool, at: usize) -> bool
     words::same_words(board, e.item.address, board, at, Item::ADDRESS)
 }
 
+// Whether the address of item number k, which stands before the next item, begins with another word than the one at a place of the board:
+// that is told from the next item's row. No where there is no next item.
+fn begins_otherwise(board: &[u32], index: &[u32], count: usize, k: usize, at: usize) -> bool
+    requires { ⌜ Kept (now board) (now index) count ⌝ }
+    requires { ⌜ (1 ≤ k) × (k ≤ count) × (at + 8 ≤ length (now board)) ⌝ }
+    ensures { λ r. ⌜ r ≡ otherStart (now (board .entry)) count k at ⌝ }
+{
+    if count <= k {
+        return false;
+    }
+    let own = words::wide(index[Limit::INDEX_ROW * k]) - Item::ADDRESS;
+    board[own] != board[at]
+}
+
+// Whether item number k is of a kind, main or hidden, and has the address that stands at a place of the board. Most items are told from
+// the first word of their address.
+fn is_at(board: &[u32], index: &[u32], count: usize, k: usize, main: bool, at: usize) -> bool
+    requires { ⌜ Kept (now board) (now index) count ⌝ }
+    requires { ⌜ (1 ≤ k) × (k ≤ count) × (at + 8 ≤ length (now board)) ⌝ }
+    ensures { λ r. ⌜ r ≡ addressed main (part at 8 (now (board .entry))) (entry (before (now (board .entry)) count) k) ⌝ }
+{
+    if begins_otherwise(board, index, count, k, at) {
+        return false;
+    }
+    let e = index::entry(board, index, count, k);
+    is_addressed(board, e, main, at)
+}
+
 // The number of the first item, main or hidden, with the address that stands at a place of the board; 0 where there is none.
 pub fn first_addressed(board: &[u32], index: &[u32], count: usize, main: bool, at: usize) -> usize
     requires { ⌜ (Kept (now board) (now index) count) × (at + 8 ≤ length (now board)) ⌝ }
@@ -39,8 +68,7 @@ pub fn first_addressed(board: &[u32], index: &[u32], count: usize, main: bool, a
 {
     let mut number = 1;
     while number <= count {
-        let e = index::entry(board, index, count, number);
-        if is_addressed(board, e, main, at) {
+        if is_at(board, index, count, number, main, at) {
             return number;
         }
         number += 1;

@@ -7,7 +7,6 @@ use Rattle.model.specs.History.{first, firstFrom}
 use Rattle.index.specs.Kept.{before}
 use Rattle.lookup.specs.Search.{addressed}
 use Rattle.lookup.proofs.Steps.{from, first-stops, first-goes, first-ends}
-use Rattle.lookup.proofs.Views.{told-from, is-known}
 use Rattle.lookup.proofs.first_addressed.Statement.{statement}
 use Rattle.lookup.proofs.first_addressed.Tie as tie
 
@@ -22,20 +21,16 @@ abbrev μ-loop : tie.MeasureT-loop
 loop-holds : tie.Need-loop-holds Inv-loop μ-loop
 loop-holds c = (search needs, search needs, refl)
 
-entry-requires : tie.Need-entry-requires Inv-loop μ-loop
-entry-requires c κs = search needs
-
-is-addressed-requires : tie.Need-is-addressed-requires Inv-loop μ-loop
-is-addressed-requires c κs = (is-known (c .entry .ensures), c .before .before .before .before .before .pre .1)
+is-at-requires : tie.Need-is-at-requires Inv-loop μ-loop
+is-at-requires c κs = search needs
 
 returns : tie.Need-returns Inv-loop μ-loop
 returns c =
-    let l = c .before .before .before .before in
+    let l = c .before .before .before in
     let a = l .before .before .before .args in
     let p = addressed (a .main) (part (a .at) 8 (a .board .now)) in
     let v = l .loop .inv in
-    let e = c .before .before .entry in
-    sym (v .2 ∙ first-stops _ _ p (l .loop .number) (v .0) (search needs) _ (told-from (e .ensures) p (c .before .is-addressed .ensures)) (c .if1 .taken))
+    sym (v .2 ∙ first-stops _ _ p (l .loop .number) (v .0) (search needs) _ (c .before .is-at .ensures) (c .if1 .taken))
 
 add-number : tie.Need-add-number Inv-loop μ-loop
 add-number c = search needs
@@ -45,12 +40,11 @@ loop-less c = search needs
 
 loop-again : tie.Need-loop-again Inv-loop μ-loop
 loop-again c =
-    let l = c .before .before .before .before in
+    let l = c .before .before .before in
     let a = l .before .before .before .args in
     let p = addressed (a .main) (part (a .at) 8 (a .board .now)) in
     let v = l .loop .inv in
-    let e = c .before .before .entry in
-    (search needs, search needs, v .2 ∙ first-goes _ _ p (l .loop .number) (v .0) (search needs) _ (told-from (e .ensures) p (c .before .is-addressed .ensures)) (c .if1 .left))
+    (search needs, search needs, v .2 ∙ first-goes _ _ p (l .loop .number) (v .0) (search needs) _ (c .before .is-at .ensures) (c .if1 .left))
 
 returns-2 : tie.Need-returns-2 Inv-loop μ-loop
 returns-2 c = let l = c .before in sym (l .loop .inv .2 ∙ first-ends _ _ _ (l .loop .number) (search needs))
@@ -62,8 +56,7 @@ first-addressed-spec =
     Inv-loop
     μ-loop
     loop-holds
-    entry-requires
-    is-addressed-requires
+    is-at-requires
     returns
     add-number
     loop-less
