@@ -1,7 +1,8 @@
 // Audits the boards of data/ and writes what is answered of each, as the auditing program prints it. data/index.txt says what each board is:
 // one for each refusal and reason, and sound ones. Refusals 1 and 2 come from boards and tables of their own; 17 comes from none, since
 // no more ballots are counted than there are items, and the ballot table has room for that many rows.
-ghost use Prim.Native.Nat.{_≤_};
+ghost use mathlib.Core.Path.{_≡_};
+ghost use Prim.Native.Nat.{_+_, _%_, _≤_};
 ghost use Rattle.io.specs.Counts.{Counts};
 use audit::report::Answer;
 use format::limit::Limit;
@@ -14,7 +15,9 @@ const BOARDS: usize = 111;
 const ROOM: usize = 16_384;
 
 // The last digit of a number, in decimal.
-fn digit(n: usize) -> u8 {
+fn digit(n: usize) -> u8
+    ensures { λ r. ⌜ r ≡ 48 + n % 10 ⌝ }
+{
     48 + (n % 10) as u8
 }
 
