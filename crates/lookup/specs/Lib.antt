@@ -1,2 +1,3 @@
--- What is searched for.
+-- What is searched for, and in which bucket.
 pub mod Search
+pub mod Buckets

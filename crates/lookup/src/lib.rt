@@ -17,10 +17,13 @@ ghost use Rattle.format.specs.Layout.{itemOf};
 ghost use Rattle.index.specs.Kept.{before, Kept};
 ghost use Rattle.index.specs.Known.{IsKnown};
 ghost use Rattle.lookup.specs.Search.{entryFrom, addressed, otherStart, mainEntry};
+ghost use Rattle.lookup.specs.Buckets.{parentChain, sessionChain};
 use format::head::Head;
 use format::item::Item;
 use format::limit::Limit;
 use index::Known;
+
+pub mod bucket;
 
 // Whether the item is of a kind, main or hidden, and has the address that stands at a place of the board.
 fn is_addressed(board: &[u32], e: Known, main: bool, at: usize) -> bool
@@ -62,8 +65,15 @@ fn is_at(board: &[u32], index: &[u32], count: usize, k: usize, main: bool, at: u
 }
 
 // The number of the first item, main or hidden, with the address that stands at a place of the board; 0 where there is none.
-pub fn first_addressed(board: &[u32], index: &[u32], count: usize, main: bool, at: usize) -> usize
-    requires { ⌜ (Kept (now board) (now index) count) × (at + 8 ≤ length (now board)) ⌝ }
+fn first_addressed(
+    board: &[u32],
+    index: &[u32],
+    parents: &[u32],
+    count: usize,
+    main: bool,
+    at: usize,
+) -> usize
+    requires { ⌜ (Kept (now board) (now index) count) × (now parents ≡ parentChain (now board) count) × (at + 8 ≤ length (now board)) ⌝ }
     ensures { λ r. ⌜ r ≡ first (addressed main (part at 8 (now (board .entry)))) (before (now (board .entry)) count) ⌝ }
 {
     let mut number = 1;
@@ -77,8 +87,14 @@ pub fn first_addressed(board: &[u32], index: &[u32], count: usize, main: bool, a
 }
 
 // The number of the parent of the item at a place, after the first count items: its own for genesis, 0 where it is not found.
-pub fn parent_number(board: &[u32], index: &[u32], count: usize, item: Item) -> usize
-    requires { ⌜ Kept (now board) (now index) count ⌝ }
+pub fn parent_number(
+    board: &[u32],
+    index: &[u32],
+    parents: &[u32],
+    count: usize,
+    item: Item,
+) -> usize
+    requires { ⌜ (Kept (now board) (now index) count) × (now parents ≡ parentChain (now board) count) ⌝ }
     requires { ⌜ (item ≡ itemOf (now board) (item .place)) × (item .end ≤ length (now board)) ⌝ }
     ensures { λ r. ⌜ r ≡ parentNumber (before (now (board .entry)) count) (itemAt base (now (board .entry)) (item .place)) ⌝ }
 {
@@ -87,7 +103,7 @@ pub fn parent_number(board: &[u32], index: &[u32], count: usize, item: Item) -> 
         return count + 1;
     }
     let main = code <= Head::TRACK;
-    first_addressed(board, index, count, main, item.parent)
+    first_addressed(board, index, parents, count, main, item.parent)
 }
 
 // The number of its session, from that of its parent: its own for a session, 0 where it has none.
@@ -130,8 +146,14 @@ fn is_session_of(board: &[u32], e: Known, voter: u32) -> bool
 }
 
 // The number of the latest session of a voter; 0 where there is none.
-pub fn latest_session(board: &[u32], index: &[u32], count: usize, voter: u32) -> usize
-    requires { ⌜ Kept (now board) (now index) count ⌝ }
+pub fn latest_session(
+    board: &[u32],
+    index: &[u32],
+    sessions: &[u32],
+    count: usize,
+    voter: u32,
+) -> usize
+    requires { ⌜ (Kept (now board) (now index) count) × (now sessions ≡ sessionChain (now board) count) ⌝ }
     ensures { λ r. ⌜ r ≡ last (sessionOf voter) (before (now (board .entry)) count) ⌝ }
 {
     let mut k = count;

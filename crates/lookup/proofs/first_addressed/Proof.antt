@@ -11,12 +11,12 @@ use Rattle.lookup.proofs.first_addressed.Statement.{statement}
 use Rattle.lookup.proofs.first_addressed.Tie as tie
 
 abbrev Inv-loop : tie.InvT-loop
-Inv-loop board index count main at number₀ number =
+Inv-loop board index parents count main at number₀ number =
     (1 ≤ number) × (number ≤ count + 1)
     × (first (addressed main (part at 8 board)) (before board count) ≡ firstFrom number (addressed main (part at 8 board)) (from board count number))
 
 abbrev μ-loop : tie.MeasureT-loop
-μ-loop board index count main at number₀ number = count + 1 - number
+μ-loop board index parents count main at number₀ number = count + 1 - number
 
 loop-holds : tie.Need-loop-holds Inv-loop μ-loop
 loop-holds c = (search needs, search needs, refl)
@@ -27,7 +27,7 @@ is-at-requires c κs = search needs
 returns : tie.Need-returns Inv-loop μ-loop
 returns c =
     let l = c .before .before .before in
-    let a = l .before .before .before .args in
+    let a = l .before .before .before .before .args in
     let p = addressed (a .main) (part (a .at) 8 (a .board .now)) in
     let v = l .loop .inv in
     sym (v .2 ∙ first-stops _ _ p (l .loop .number) (v .0) (search needs) _ (c .before .is-at .ensures) (c .if1 .taken))
@@ -41,7 +41,7 @@ loop-less c = search needs
 loop-again : tie.Need-loop-again Inv-loop μ-loop
 loop-again c =
     let l = c .before .before .before in
-    let a = l .before .before .before .args in
+    let a = l .before .before .before .before .args in
     let p = addressed (a .main) (part (a .at) 8 (a .board .now)) in
     let v = l .loop .inv in
     (search needs, search needs, v .2 ∙ first-goes _ _ p (l .loop .number) (v .0) (search needs) _ (c .before .is-at .ensures) (c .if1 .left))

@@ -12,12 +12,12 @@ use Rattle.lookup.proofs.latest_session.Statement.{statement}
 use Rattle.lookup.proofs.latest_session.Tie as tie
 
 abbrev Inv-loop : tie.InvT-loop
-Inv-loop board index count voter k₀ k =
+Inv-loop board index sessions count voter k₀ k =
     (k ≤ count)
     × (last (sessionOf voter) (before board count) ≡ last (sessionOf voter) (take k (before board count)))
 
 abbrev μ-loop : tie.MeasureT-loop
-μ-loop board index count voter k₀ k = k
+μ-loop board index sessions count voter k₀ k = k
 
 loop-holds : tie.Need-loop-holds Inv-loop μ-loop
 loop-holds c = (search needs, last-all _ _ _)
@@ -28,12 +28,12 @@ entry-requires c κs = search needs
 is-session-of-requires : tie.Need-is-session-of-requires Inv-loop μ-loop
 is-session-of-requires c κs =
     let l = c .before .before in
-    (is-known (c .entry .ensures), session-words (l .before .before .before .pre) (search needs) (l .loop .inv .0) (c .entry .ensures))
+    (is-known (c .entry .ensures), session-words (l .before .before .before .before .pre .0) (search needs) (l .loop .inv .0) (c .entry .ensures))
 
 returns : tie.Need-returns Inv-loop μ-loop
 returns c =
     let l = c .before .before .before .before in
-    let p = sessionOf (l .before .before .before .args .voter) in
+    let p = sessionOf (l .before .before .before .before .args .voter) in
     let v = l .loop .inv in
     let e = c .before .before .entry in
     sym (v .1 ∙ last-stops _ _ p (l .loop .k) (search needs) (v .0) _ (told-from (e .ensures) p (c .before .is-session-of .ensures)) (c .if1 .taken))
@@ -47,7 +47,7 @@ loop-less c = search needs
 loop-again : tie.Need-loop-again Inv-loop μ-loop
 loop-again c =
     let l = c .before .before .before .before in
-    let p = sessionOf (l .before .before .before .args .voter) in
+    let p = sessionOf (l .before .before .before .before .args .voter) in
     let v = l .loop .inv in
     let e = c .before .before .entry in
     (search needs, v .1 ∙ last-goes _ _ p (l .loop .k) (search needs) (v .0) _ (told-from (e .ensures) p (c .before .is-session-of .ensures)) (c .if1 .left))

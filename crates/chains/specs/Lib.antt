@@ -1,0 +1,2 @@
+-- Items in chains.
+pub mod Chain
