@@ -4,6 +4,7 @@ ghost use Rattle.model.specs.Words.{between};
 ghost use Rattle.model.specs.Phase.{phaseOk};
 ghost use Rattle.model.specs.Only.{onlyOk};
 ghost use Rattle.index.specs.Kept.{before, itemAfter};
+ghost use Rattle.lookup.specs.Buckets.{sessionChain};
 ghost use Rattle.state.specs.Stands.{AtItem};
 use index::Known;
 use state::State;
@@ -12,8 +13,8 @@ mod only;
 mod phase;
 
 // 11 out of phase.
-pub fn phase_ok(board: &[u32], index: &[u32], s: State, c: Known) -> bool
-    requires { ⌜ AtItem (now board) (now index) s c ⌝ }
+pub fn phase_ok(board: &[u32], index: &[u32], sessions: &[u32], s: State, c: Known) -> bool
+    requires { ⌜ (AtItem (now board) (now index) s c) × (now sessions ≡ sessionChain (now board) (s .items)) ⌝ }
     ensures { λ r. ⌜ r ≡ phaseOk (before (now (board .entry)) (s .items)) (itemAfter (now (board .entry)) (s .items)) ⌝ }
 {
     if !phase::extraction_ok(board, index, s, c) {
@@ -25,7 +26,7 @@ pub fn phase_ok(board: &[u32], index: &[u32], s: State, c: Known) -> bool
     if !phase::standing_ok(board, index, s, c) {
         return false;
     }
-    if !phase::latest_ok(board, index, s, c) {
+    if !phase::latest_ok(board, index, sessions, s, c) {
         return false;
     }
     phase::intent_ok(board, index, s, c)

@@ -3,6 +3,7 @@ ghost use mathlib.Core.Path.{_≡_};
 ghost use Rattle.model.specs.History.{itemNo, sessionVoter};
 ghost use Rattle.model.specs.Phase.{extractionOk, openOk, standingOk, latestOk, intentOk};
 ghost use Rattle.index.specs.Kept.{before, itemAfter, Kept};
+ghost use Rattle.lookup.specs.Buckets.{sessionChain};
 ghost use Rattle.state.specs.Stands.{AtItem};
 ghost use Rattle.phases.specs.Session.{IsSession};
 use format::head::Head;
@@ -49,15 +50,15 @@ pub fn standing_ok(board: &[u32], index: &[u32], s: State, c: Known) -> bool
 }
 
 // "Types 17 to 21 need their session to be the latest of its voter."
-pub fn latest_ok(board: &[u32], index: &[u32], s: State, c: Known) -> bool
-    requires { ⌜ AtItem (now board) (now index) s c ⌝ }
+pub fn latest_ok(board: &[u32], index: &[u32], sessions: &[u32], s: State, c: Known) -> bool
+    requires { ⌜ (AtItem (now board) (now index) s c) × (now sessions ≡ sessionChain (now board) (s .items)) ⌝ }
     ensures { λ r. ⌜ r ≡ latestOk (before (now (board .entry)) (s .items)) (itemAfter (now (board .entry)) (s .items)) ⌝ }
 {
     if !crate::is_between(Head::VOTER_COMMITMENT, Head::SPOIL, c.item.head.code) {
         return true;
     }
     let voter = voter_of(board, index, s.items, c.session);
-    c.session == lookup::latest_session(board, index, s.items, voter)
+    c.session == lookup::latest_session(board, index, sessions, s.items, voter)
 }
 
 // "Type 32 needs a threshold."
