@@ -4,6 +4,7 @@ ghost use mathlib.Core.List.{List};
 ghost use Prim.Native.Nat.{ℕ};
 ghost use Rattle.model.specs.Audit.{firstUnmet};
 ghost use Rattle.refusal.specs.Number.{foundOf};
+ghost use Rattle.lookup.specs.Buckets.{sessionChain};
 ghost use Rattle.state.specs.Stands.{AtItem, IsRow};
 ghost use Rattle.tally.specs.Tallied.{Tallied};
 ghost use Rattle.judge.specs.Checks.{verdictAt, checksOf, linkChecks, ruleChecks, verdictChecks};
@@ -42,15 +43,16 @@ fn rules_finding(
     board: &[u32],
     index: &[u32],
     ballots: &[u32],
+    sessions: &[u32],
     s: State,
     c: Known,
     row: Row,
 ) -> Finding
-    requires { ⌜ (AtItem (now board) (now index) s c) × (Tallied (now board) (now ballots) (s .items)) ⌝ }
+    requires { ⌜ (AtItem (now board) (now index) s c) × (Tallied (now board) (now ballots) (s .items)) × (now sessions ≡ sessionChain (now board) (s .items)) ⌝ }
     ensures { λ r. ⌜ ((v : List ℕ) → foundOf r ≡ firstUnmet (ruleChecks (checksOf (now (board .entry)) v s row))) ⌝ }
 {
     // 11 out of phase
-    if !phases::phase_ok(board, index, s, c) {
+    if !phases::phase_ok(board, index, sessions, s, c) {
         return Finding::Fails(Refusal::OutOfPhase);
     }
     // 12 second
@@ -97,18 +99,20 @@ pub fn item_finding(
     verdicts: &[u32],
     index: &[u32],
     ballots: &[u32],
+    sessions: &[u32],
     s: State,
     c: Known,
     row: Row,
 ) -> Finding
-    requires { ⌜ (AtItem (now board) (now index) s c) × (IsRow (now board) s row) × (Tallied (now board) (now ballots) (s .items)) ⌝ }
+    requires { ⌜ (AtItem (now board) (now index) s c) × (IsRow (now board) s row) ⌝ }
+    requires { ⌜ (Tallied (now board) (now ballots) (s .items)) × (now sessions ≡ sessionChain (now board) (s .items)) ⌝ }
     ensures { λ r. ⌜ foundOf r ≡ firstUnmet (checksOf (now (board .entry)) (verdictAt (now (verdicts .entry)) (s .items)) s row) ⌝ }
 {
     let links = links_finding(board, index, s, c, row);
     if let Finding::Fails(_) = links {
         return links;
     }
-    let rules = rules_finding(board, index, ballots, s, c, row);
+    let rules = rules_finding(board, index, ballots, sessions, s, c, row);
     if let Finding::Fails(_) = rules {
         return rules;
     }

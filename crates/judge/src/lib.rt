@@ -7,6 +7,7 @@ ghost use Rattle.model.specs.History.{entryOf};
 ghost use Rattle.format.specs.Layout.{itemOf};
 ghost use Rattle.index.specs.Kept.{before, itemAfter, Kept};
 ghost use Rattle.index.specs.Known.{knownOf};
+ghost use Rattle.lookup.specs.Buckets.{parentChain, sessionChain};
 ghost use Rattle.state.specs.Stands.{Stands};
 ghost use Rattle.tally.specs.Tallied.{Tallied};
 ghost use Rattle.judge.specs.Judged.{IsJudged};
@@ -28,12 +29,12 @@ pub enum Judged {
 }
 
 // What is known of the item after those that passed: its parts, its parent and its session.
-fn candidate(board: &[u32], index: &[u32], s: State, item: Item) -> Known
-    requires { ⌜ (Kept (now board) (now index) (s .items)) × (Stands (now board) s) ⌝ }
+fn candidate(board: &[u32], index: &[u32], parents: &[u32], s: State, item: Item) -> Known
+    requires { ⌜ (Kept (now board) (now index) (s .items)) × (Stands (now board) s) × (now parents ≡ parentChain (now board) (s .items)) ⌝ }
     requires { ⌜ (item ≡ itemOf (now board) (s .place)) × (item .end ≤ length (now board)) ⌝ }
     ensures { λ r. ⌜ r ≡ knownOf (now (board .entry)) (entryOf (before (now (board .entry)) (s .items)) (s .place) (itemAfter (now (board .entry)) (s .items))) ⌝ }
 {
-    let parent = lookup::parent_number(board, index, s.items, item);
+    let parent = lookup::parent_number(board, index, parents, s.items, item);
     let session = lookup::session_number(board, index, s.items, item, parent);
     Known {
         item,
@@ -43,8 +44,17 @@ fn candidate(board: &[u32], index: &[u32], s: State, item: Item) -> Known
 }
 
 // Judges the item after those that passed.
-pub fn judge(board: &[u32], verdicts: &[u32], index: &[u32], ballots: &[u32], s: State) -> Judged
+pub fn judge(
+    board: &[u32],
+    verdicts: &[u32],
+    index: &[u32],
+    ballots: &[u32],
+    parents: &[u32],
+    sessions: &[u32],
+    s: State,
+) -> Judged
     requires { ⌜ (Kept (now board) (now index) (s .items)) × (Stands (now board) s) × (Tallied (now board) (now ballots) (s .items)) ⌝ }
+    requires { ⌜ (now parents ≡ parentChain (now board) (s .items)) × (now sessions ≡ sessionChain (now board) (s .items)) ⌝ }
     requires { ⌜ (s .place < length (now board)) × (s .items < itemLimit) ⌝ }
     ensures { λ r. ⌜ IsJudged (now (board .entry)) (now (verdicts .entry)) (now (index .entry)) s r ⌝ }
 {
@@ -65,8 +75,8 @@ pub fn judge(board: &[u32], verdicts: &[u32], index: &[u32], ballots: &[u32], s:
     if board.len() < item.end {
         return Judged::Fails(Refusal::Truncated);
     }
-    let c = candidate(board, index, s, item);
-    let found = checks::item_finding(board, verdicts, index, ballots, s, c, row);
+    let c = candidate(board, index, parents, s, item);
+    let found = checks::item_finding(board, verdicts, index, ballots, sessions, s, c, row);
     match found {
         Finding::Passes => Judged::Passes(c),
         Finding::Fails(refusal) => Judged::Fails(refusal),

@@ -16,7 +16,7 @@ use Rattle.judge.proofs.judge.Tie as tie
 
 -- where each record of the walk began
 abbrev start-fits : tie.After-fits2 → tie.Start
-start-fits c = c .before .before .before .before .before .before .before .before .before .before .before
+start-fits c = c .before .before .before .before .before .before .before .before .before .before .before .before .before
 
 abbrev start-fit : tie.Else1 → tie.Start
 start-fit c = start-fits (c .before)
@@ -44,7 +44,7 @@ at-item : (c : tie.After-candidate)
 at-item c =
     let p = start-candidate c .pre in
     let e = c .before .before .before .before in
-    judged-at (p .0 .0) (p .0 .1) (p .1 .1) (row (e .before)) (row-is (e .before)) (fit e) (c .before .before .before .at .ensures) (c .before .if2 .left) _ (c .candidate .ensures)
+    judged-at (p .0 .0) (p .0 .1) (p .1 .1 .1) (row (e .before)) (row-is (e .before)) (fit e) (c .before .before .before .at .ensures) (c .before .if2 .left) _ (c .candidate .ensures)
 
 -- the first refusal that applies is what was found of it
 fault-is : (c : tie.After-item-finding)
@@ -53,7 +53,7 @@ fault-is : (c : tie.After-item-finding)
 fault-is c =
     let p = start-candidate (c .before) .pre in
     let e = c .before .before .before .before .before in
-    judged-fault (p .0 .0) (p .0 .1) (p .1 .1) (row (e .before)) (row-is (e .before)) (fit e) (c .before .before .before .before .at .ensures) (c .before .before .if2 .left) _ _
+    judged-fault (p .0 .0) (p .0 .1) (p .1 .1 .1) (row (e .before)) (row-is (e .before)) (fit e) (c .before .before .before .before .at .ensures) (c .before .before .if2 .left) _ _
     (c .item-finding .ensures)
 
 mul-of : tie.Need-mul-of
@@ -76,7 +76,7 @@ enum-told c = search needs
 
 returns : tie.Need-returns
 returns c =
-    let start = c .before .before .before .before .before .before .before .before .before in
+    let start = c .before .before .before .before .before .before .before .before .before .before .before in
     let x = start .args in
     fault-unlisted (x .board .now) (x .verdicts .now) (x .s)
     (listed-row (x .board .now) (x .s) _ (c .before .before .before .of .ensures) (c .enum-told .given .1) (c .before .before .row-of .ensures))
@@ -103,10 +103,12 @@ returns-3 c =
 candidate-requires : tie.Need-candidate-requires
 candidate-requires c κs =
     let p = start-fit (c .before .before .before) .pre in
-    ((p .0 .0, p .0 .1), (c .before .before .at .ensures, c .if2 .left))
+    ((p .0 .0, p .0 .1, p .1 .0 .0), (c .before .before .at .ensures, c .if2 .left))
 
 item-finding-requires : tie.Need-item-finding-requires
-item-finding-requires c κs = (at-item c, row-is (c .before .before .before .before .before), start-candidate c .pre .0 .2)
+item-finding-requires c κs =
+    let p = start-candidate c .pre in
+    ((at-item c, row-is (c .before .before .before .before .before)), (p .0 .2, p .1 .0 .1))
 
 enum-told-2 : tie.Need-enum-told-2
 enum-told-2 c = search needs
@@ -121,7 +123,7 @@ returns-4 c =
     let e = i .before .before .before .before .before in
     let clean = fault-is i ∙ ap foundOf (c .enum-told2 .given .1) in (
       clean,
-      judged-passing (p .0 .0) (p .0 .1) (p .1 .1) (row (e .before)) (row-is (e .before)) (fit e) (i .before .before .before .before .at .ensures) (i .before .before .if2 .left) _ _
+      judged-passing (p .0 .0) (p .0 .1) (p .1 .1 .1) (row (e .before)) (row-is (e .before)) (fit e) (i .before .before .before .before .at .ensures) (i .before .before .if2 .left) _ _
           (i .before .candidate .ensures) clean,
     )
 
