@@ -1,0 +1,2 @@
+-- What a chain table holds.
+pub mod Laws
