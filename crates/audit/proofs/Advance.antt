@@ -12,6 +12,7 @@ use Rattle.format.specs.Base.{base}
 use Rattle.index.specs.Kept.{before, Kept}
 use Rattle.index.specs.Known.{Passing}
 use Rattle.index.specs.declared.Known.{Known}
+use Rattle.lookup.specs.Buckets.{parentChain, sessionChain}
 use Rattle.state.specs.Stands.{Stands}
 use Rattle.state.specs.declared.State.{State}
 use Rattle.tally.specs.Tallied.{Tallied}
@@ -27,27 +28,35 @@ mains-before {board} {s} stands =
     rw (take-all (s .items) (before board (s .items)) (omega (arith, length-history base board (s .items)))) (stands .mains)
 
 -- the tables and the state with one item more
-pub reached-next : {board index ballots : List ℕ} (s : State) {r : State} → r .items ≡ s .items + 1 → Kept board index (s .items + 1) → Stands board r
-    → Tallied board ballots (s .items + 1) → Reached board index ballots r
-reached-next s n kept stands tallied = record { kept = rw n kept; stands = stands; tallied = rw n tallied }
+pub reached-next : {board index ballots parents sessions : List ℕ} (s : State) {r : State} → r .items ≡ s .items + 1
+    → Kept board index (s .items + 1) → Stands board r → Tallied board ballots (s .items + 1)
+    → (parents ≡ parentChain board (s .items + 1)) × (sessions ≡ sessionChain board (s .items + 1))
+    → Reached board index ballots parents sessions r
+reached-next s n kept stands tallied chains = record {
+  kept = rw n kept;
+  stands = stands;
+  tallied = rw n tallied;
+  parents = rw n (chains .0);
+  sessions = rw n (chains .1);
+}
 
 module _ (board verdicts index : List ℕ) (s : State) (j : Judged) (judged : IsJudged board verdicts index s j) where
   pub judged-passing : (c : Known) → j ≡ Passes c → Passing board index (s .items) c
   judged-passing c e = (rw e at judged) .1
 
-  pub stepped-passes : (c : Known) → j ≡ Passes c → (ballots index′ ballots′ : List ℕ) (r : State)
-      → (r .items ≡ s .items + 1) × Reached board index′ ballots′ r
-      → Stepped board verdicts index ballots index′ ballots′ s record { finding = finding.Passes; state = r }
-  stepped-passes c e ballots index′ ballots′ r next = record {
+  pub stepped-passes : (c : Known) → j ≡ Passes c → (ballots parents sessions : List ℕ) {index′ ballots′ parents′ sessions′ : List ℕ} (r : State)
+      → (r .items ≡ s .items + 1) × Reached board index′ ballots′ parents′ sessions′ r
+      → Stepped board verdicts index ballots parents sessions index′ ballots′ parents′ sessions′ s record { finding = finding.Passes; state = r }
+  stepped-passes c e ballots parents sessions r next = record {
     finding = sym ((rw e at judged) .0);
     passed = λ q. next;
     failed = λ q. absurd (q refl);
   }
 
-  pub stepped-fails : (x : Refusal) → j ≡ Fails x → (ballots : List ℕ)
-      → Stepped board verdicts index ballots index ballots s record { finding = finding.Fails x; state = s }
-  stepped-fails x e ballots = record {
+  pub stepped-fails : (x : Refusal) → j ≡ Fails x → (ballots parents sessions : List ℕ)
+      → Stepped board verdicts index ballots parents sessions index ballots parents sessions s record { finding = finding.Fails x; state = s }
+  stepped-fails x e ballots parents sessions = record {
     finding = sym (rw e at judged);
     passed = λ q. absurd (omega (arith, number-some x));
-    failed = λ q. (refl, refl, refl);
+    failed = λ q. (refl, refl, refl, refl, refl);
   }

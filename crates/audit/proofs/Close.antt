@@ -28,7 +28,7 @@ use Rattle.index.proofs.Reading.{known-item}
 use Rattle.state.specs.Stands.{Stands}
 use Rattle.state.specs.declared.State.{State}
 use Rattle.tally.specs.Rows.{HoldsRows}
-use Rattle.audit.specs.Steps.{Reached}
+use Rattle.tally.specs.Tallied.{Tallied}
 
 -- ---- 18
 
@@ -95,24 +95,25 @@ module _ (board verdicts : List ℕ) (room : ℕ) (s : State) where
     close-good l = rw (closed, ← stands .ballots, le-ltb _ _ l)
 
 -- the counted ballots are no more than the items
-pub ballots-few : {board index ballots : List ℕ} {s : State} → Reached board index ballots s → s .ballots ≤ s .items
-ballots-few {board} {s = s} r =
+pub ballots-few : {board : List ℕ} {s : State} → Stands board s → s .ballots ≤ s .items
+ballots-few {board} {s} stands =
     let h = before board (s .items) in
-    omega (arith, r .stands .ballots, counted-few h, length-history base board (s .items))
+    omega (arith, stands .ballots, counted-few h, length-history base board (s .items))
 
-pub holds-rows : {board index ballots : List ℕ} {s : State} → Reached board index ballots s → HoldsRows ballots (s .ballots) (counted (before board (s .items)))
-holds-rows r = record { rows = r .tallied .rows; number = r .stands .ballots }
+pub holds-rows : {board ballots : List ℕ} {s : State} → Stands board s → Tallied board ballots (s .items)
+    → HoldsRows ballots (s .ballots) (counted (before board (s .items)))
+holds-rows stands tallied = record { rows = tallied .rows; number = stands .ballots }
 
-pub accepted-report : {board index ballots : List ℕ} {s : State} → Reached board index ballots s → (weight : ℕ) (end : List ℕ)
+pub accepted-report : {board : List ℕ} {s : State} → Stands board s → (weight : ℕ) (end : List ℕ)
     → weight ≡ totalWeight (counted (before board (s .items))) → end ≡ endAddress base (before board (s .items))
     → record { number = 0; items = s .items; mains = s .mains; end = end; ballots = s .ballots; weight = weight } ≡ reportOf base (accepted (before board (s .items)))
 unfolding reportOf
-accepted-report {board} {s = s} r weight end ew ee =
+accepted-report {board} {s} stands weight end ew ee =
     λ j. record {
       number = 0;
       items = sym (length-history base board (s .items)) j;
-      mains = r .stands .mains j;
+      mains = stands .mains j;
       end = ee j;
-      ballots = r .stands .ballots j;
+      ballots = stands .ballots j;
       weight = ew j;
     }

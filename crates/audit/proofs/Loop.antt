@@ -26,6 +26,7 @@ use Rattle.format.specs.Base.{base}
 use Rattle.format.specs.Layout.{headOf}
 use Rattle.format.specs.declared.head.Head.{Head}
 use Rattle.index.specs.Kept.{before, Kept}
+use Rattle.lookup.specs.Buckets.{parentChain, sessionChain}
 use Rattle.state.specs.Stands.{Stands}
 use Rattle.state.specs.declared.State.{State}
 use Rattle.tally.specs.Tallied.{Tallied}
@@ -75,19 +76,30 @@ module _ (board verdicts : List ℕ) where
   answer room = items base board verdicts room itemLimit [] 0
 
   -- the audit stands behind the first s .items items, the answer is the same from there on, and the tables keep their lengths
-  pub record Going (index₀ ballots₀ index ballots : List ℕ) (s : State) : Type 0 where
-    pub reached : Reached board index ballots s
+  pub record Going (index₀ ballots₀ parents₀ sessions₀ index ballots parents sessions : List ℕ) (s : State) : Type 0 where
+    pub reached : Reached board index ballots parents sessions s
     pub same : answer (length ballots₀) ≡ itemsFrom base board verdicts (length ballots₀) (s .items)
     pub index-size : length index ≡ length index₀
     pub ballots-size : length ballots ≡ length ballots₀
+    pub parents-size : length parents ≡ length parents₀
+    pub sessions-size : length sessions ≡ length sessions₀
 
-  pub going-start : {index ballots : List ℕ} {s : State} → Sized board index ballots → Zeros index → Zeros ballots → s .items ≡ 0
-      → Stands board s → Going index ballots index ballots s
-  going-start {index} {ballots} {s} sized zi zb none stands = record {
-    reached = record { kept = rw none (kept-none sized zi); stands = stands; tallied = rw none (tallied-none sized zb) };
+  pub going-start : {index ballots parents sessions : List ℕ} {s : State} → Sized board index ballots → Zeros index → Zeros ballots
+      → (parents ≡ parentChain board 0) × (sessions ≡ sessionChain board 0) → s .items ≡ 0 → Stands board s
+      → Going index ballots parents sessions index ballots parents sessions s
+  going-start {ballots = ballots} sized zi zb chains none stands = record {
+    reached = record {
+      kept = rw none (kept-none sized zi);
+      stands = stands;
+      tallied = rw none (tallied-none sized zb);
+      parents = rw none (chains .0);
+      sessions = rw none (chains .1);
+    };
     same = rw none (items-start base board verdicts (length ballots));
     index-size = refl;
     ballots-size = refl;
+    parents-size = refl;
+    sessions-size = refl;
   }
 
   -- the tables at the closing word
@@ -101,7 +113,8 @@ module _ (board verdicts : List ℕ) where
       by-if Goal (not (closingOk board verdicts (before board n) p)) _ _ (λ t. held)
       λ t. by-if Goal (ltb room (ballotRow * length (counted (before board n)))) _ _ (λ u. held) (λ u. held)
 
-  module _ {index₀ ballots₀ index ballots : List ℕ} {s : State} (g : Going index₀ ballots₀ index ballots s) where
+  module _ {index₀ ballots₀ parents₀ sessions₀ index ballots parents sessions : List ℕ} {s : State}
+      (g : Going index₀ ballots₀ parents₀ sessions₀ index ballots parents sessions s) where
     abbrev room : ℕ
     room = length ballots₀
 
@@ -143,20 +156,22 @@ module _ (board verdicts : List ℕ) where
         stop-full q r told =
             stopped _ (items-full base board verdicts room (s .items) (rw place-is at there) item-word (omega arith)) r told index ballots (holds-here tooLarge)
 
-        module _ (few : s .items < itemLimit) {index′ ballots′ : List ℕ} {step : Step}
-            (stepped : Stepped board verdicts index ballots index′ ballots′ s step) where
+        module _ (few : s .items < itemLimit) {index′ ballots′ parents′ sessions′ : List ℕ} {step : Step}
+            (stepped : Stepped board verdicts index ballots parents sessions index′ ballots′ parents′ sessions′ s step) where
           pub stop-refused : (x : Refusal) → step .finding ≡ Fails x → (r : Report) → reported r ≡ reportOf base (refused (numberOf x) (s .items))
               → Ran r index′ ballots′
           stop-refused x q r told =
               let number : foundOf (step .finding) ≡ numberOf x = ap foundOf q in
               let fails : numberOf x ≡ noFault → ⊥ = λ n. absurd (omega (arith, number-some x)) in
-              let (stay, same-index, same-ballots) = stepped .failed (λ n. fails (sym number ∙ n)) in
+              let (stay, same-index, same-ballots, same-parents, same-sessions) = stepped .failed (λ n. fails (sym number ∙ n)) in
               rw (same-index, same-ballots)
               (stopped _ (items-refused base board verdicts room (s .items) (rw place-is at there) item-word few (numberOf x) (rw place-is at (sym (stepped .finding) ∙ number)) fails)
               r told index ballots (holds-here (numberOf x)))
 
-          pub going-on : step .finding ≡ Passes → length index′ ≡ length index → length ballots′ ≡ length ballots → Going index₀ ballots₀ index′ ballots′ (step .state)
-          going-on q li lb =
+          pub going-on : step .finding ≡ Passes → length index′ ≡ length index → length ballots′ ≡ length ballots
+              → length parents′ ≡ length parents → length sessions′ ≡ length sessions
+              → Going index₀ ballots₀ parents₀ sessions₀ index′ ballots′ parents′ sessions′ (step .state)
+          going-on q li lb lp ls =
               let none : foundOf (step .finding) ≡ noFault = ap foundOf q in
               let (next, reached) = stepped .passed none in
               record {
@@ -164,6 +179,8 @@ module _ (board verdicts : List ℕ) where
                 same = g .same ∙ items-passed base board verdicts room (s .items) (rw place-is at there) item-word few (rw place-is at (sym (stepped .finding) ∙ none)) ∙ rw (next, add-one);
                 index-size = li ∙ g .index-size;
                 ballots-size = lb ∙ g .ballots-size;
+                parents-size = lp ∙ g .parents-size;
+                sessions-size = ls ∙ g .sessions-size;
               }
 
           pub going-less : step .finding ≡ Passes → itemLimit - step .state .items < itemLimit - s .items

@@ -14,6 +14,7 @@ use Rattle.model.specs.Report.{reportOf, tableAfter, indexAfter, ballotsAfter}
 use Rattle.model.proofs.Acceptance.{refused-stopped}
 use Rattle.model.proofs.Unchecked.{accepted-history}
 use Rattle.refusal.specs.Number.{numberOf}
+use Rattle.chains.specs.Chain.{chainWords, chain}
 use Rattle.refusal.specs.declared.Refusal.{Refusal}
 use Rattle.format.specs.Base.{base}
 use Rattle.index.specs.Kept.{before}
@@ -23,6 +24,13 @@ use Rattle.audit.specs.declared.report.Answer.{Answer}
 use Rattle.audit.specs.declared.report.Answer.the-variants.{Accepted, Refused}
 use Rattle.audit.specs.Reported.{answered, reported}
 use Rattle.audit.specs.Steps.{Sized, Zeros, Holds}
+
+-- ---- no items yet
+
+-- a chain table with no item is all zero
+pub chain-none : (bucket : ℕ → ℕ) → replicate chainWords 0 ≡ chain bucket 0
+unfolding chain
+chain-none bucket = refl
 
 -- ---- the number of an answer
 

@@ -7,6 +7,7 @@ use lib.ListN.{length, replicate}
 use Rattle.model.specs.Refusal.{noFault}
 use Rattle.model.specs.Audit.{Outcome, unread, refused, accepted, wordLimit, indexNeed, ballotNeed}
 use Rattle.index.specs.Kept.{Kept}
+use Rattle.lookup.specs.Buckets.{parentChain, sessionChain}
 use Rattle.state.specs.Stands.{Stands}
 use Rattle.state.specs.declared.State.{State}
 use Rattle.tally.specs.Tallied.{Tallied}
@@ -24,17 +25,19 @@ pub record Sized (board index ballots : List ℕ) : Type 0 where
 abbrev pub Zeros : List ℕ → Type 0
 Zeros table = table ≡ replicate (length table) 0
 
--- the audit stands behind the first s .items items, which pass: the state and both tables are theirs
-pub record Reached (board index ballots : List ℕ) (s : State) : Type 0 where
+-- the audit stands behind the first s .items items, which pass: the state, both tables and both chain tables are theirs
+pub record Reached (board index ballots parentTable sessionTable : List ℕ) (s : State) : Type 0 where
   pub kept : Kept board index (s .items)
   pub stands : Stands board s
   pub tallied : Tallied board ballots (s .items)
+  pub parents : parentTable ≡ parentChain board (s .items)
+  pub sessions : sessionTable ≡ sessionChain board (s .items)
 
 -- the item after them was judged: the first refusal that applies. Without one the audit stands behind the item, with one it stays
-pub record Stepped (board verdicts index ballots index′ ballots′ : List ℕ) (s : State) (r : Step) : Type 0 where
+pub record Stepped (board verdicts index ballots parents sessions index′ ballots′ parents′ sessions′ : List ℕ) (s : State) (r : Step) : Type 0 where
   pub finding : foundOf (r .finding) ≡ faultAfter board verdicts s
-  pub passed : foundOf (r .finding) ≡ noFault → (r .state .items ≡ s .items + 1) × Reached board index′ ballots′ (r .state)
-  pub failed : (foundOf (r .finding) ≡ noFault → ⊥) → (r .state ≡ s) × (index′ ≡ index) × (ballots′ ≡ ballots)
+  pub passed : foundOf (r .finding) ≡ noFault → (r .state .items ≡ s .items + 1) × Reached board index′ ballots′ parents′ sessions′ (r .state)
+  pub failed : (foundOf (r .finding) ≡ noFault → ⊥) → (r .state ≡ s) × (index′ ≡ index) × (ballots′ ≡ ballots) × (parents′ ≡ parents) × (sessions′ ≡ sessions)
 
 -- where the items are read: the tables hold the rows of those that an outcome says are passed
 abbrev pub Holds : List ℕ → Outcome → List ℕ → List ℕ → Type 0

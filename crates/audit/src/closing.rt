@@ -9,8 +9,8 @@ ghost use Rattle.model.specs.Report.{reportOf};
 ghost use Rattle.format.specs.Base.{base};
 ghost use Rattle.index.specs.Kept.{before, Kept};
 ghost use Rattle.state.specs.Stands.{Stands};
+ghost use Rattle.tally.specs.Tallied.{Tallied};
 ghost use Rattle.audit.specs.Reported.{reported};
-ghost use Rattle.audit.specs.Steps.{Reached};
 use crate::report::Answer;
 use crate::report::Report;
 use format::item::Item;
@@ -65,7 +65,8 @@ fn end_address(board: &[u32], index: &[u32], s: State) -> [u32; 8]
 
 // The answer at the closing word.
 pub fn close(board: &[u32], verdicts: &[u32], index: &[u32], ballots: &[u32], s: State) -> Report
-    requires { ⌜ (Reached (now board) (now index) (now ballots) s) × (s .place < length (now board)) ⌝ }
+    requires { ⌜ (Kept (now board) (now index) (s .items)) × (Stands (now board) s) × (Tallied (now board) (now ballots) (s .items)) ⌝ }
+    requires { ⌜ s .place < length (now board) ⌝ }
     ensures { λ r. ⌜ reported r ≡ reportOf base (closing base (now (board .entry)) (now (verdicts .entry)) (length (now (ballots .entry))) (before (now (board .entry)) (s .items)) (s .place)) ⌝ }
 {
     // 18 bad close

@@ -6,12 +6,14 @@ ghost use lib.ListN.{length, replicate};
 ghost use Rattle.model.specs.Audit.{audit, items, itemLimit, wordLimit, indexNeed, ballotNeed, isEmpty};
 ghost use Rattle.model.specs.Report.{reportOf, indexAfter, ballotsAfter};
 ghost use Rattle.format.specs.Base.{base};
+ghost use Rattle.lookup.specs.Buckets.{parentChain, sessionChain};
 ghost use Rattle.audit.specs.Reported.{reported};
 ghost use Rattle.audit.specs.Steps.{Sized, Zeros, Holds};
 use crate::closing;
 use crate::report::Answer;
 use crate::report::Report;
 use crate::step;
+use chains::Chain;
 use format::head::Head;
 use format::limit::Limit;
 use refusal::Finding;
@@ -28,9 +30,18 @@ fn is_empty(board: &[u32]) -> bool
     Head::of(board[0]).kind == Head::CLOSING
 }
 
-// Reads the items, and writes the rows of those that pass into the tables, which are zero. A refusal leaves the rows of the items before it.
-fn run(board: &[u32], verdicts: &[u32], index: &mut [u32], ballots: &mut [u32]) -> Report
+// Reads the items, and writes the rows of those that pass into the tables, which are zero, as are the chain tables. A refusal leaves the
+// rows of the items before it.
+fn run(
+    board: &[u32],
+    verdicts: &[u32],
+    index: &mut [u32],
+    ballots: &mut [u32],
+    parents: &mut [u32],
+    sessions: &mut [u32],
+) -> Report
     requires { ⌜ (Sized (now board) (now index) (now ballots)) × (Zeros (now index)) × (Zeros (now ballots)) ⌝ }
+    requires { ⌜ (now parents ≡ parentChain (now board) 0) × (now sessions ≡ sessionChain (now board) 0) ⌝ }
     ensures answer { λ r. ⌜ reported r ≡ reportOf base (items base (now (board .entry)) (now (verdicts .entry)) (length (now (ballots .entry))) itemLimit [] 0) ⌝ }
     ensures tables { λ _. ⌜ Holds (now (board .entry)) (items base (now (board .entry)) (now (verdicts .entry)) (length (now (ballots .entry))) itemLimit [] 0) (now (index .exit)) (now (ballots .exit)) ⌝ }
 {
@@ -48,7 +59,7 @@ fn run(board: &[u32], verdicts: &[u32], index: &mut [u32], ballots: &mut [u32]) 
         if s.items == Limit::ITEMS {
             return Report::refused(Refusal::TooLarge, s.items);
         }
-        let step = step::advance(board, verdicts, index, ballots, s);
+        let step = step::advance(board, verdicts, index, ballots, parents, sessions, s);
         let finding = step.finding;
         if let Finding::Fails(refusal) = finding {
             return Report::refused(refusal, s.items);
@@ -71,7 +82,10 @@ pub fn read(board: &[u32], verdicts: &[u32], index: &mut [u32], ballots: &mut [u
     if is_empty(board) {
         return Report::refused(Refusal::EmptyBoard, 0);
     }
-    let r = run(board, verdicts, index, ballots);
+    // The chain tables, without an item.
+    let mut parents = [0; Chain::WORDS];
+    let mut sessions = [0; Chain::WORDS];
+    let r = run(board, verdicts, index, ballots, &mut parents, &mut sessions);
     let answer = r.answer;
     if let Answer::Refused {
         refusal: _,

@@ -1,6 +1,6 @@
 -- `read` meets its contract. Assumes nothing.
 use mathlib.Core.Path.{sym, _∙_}
-use Rattle.audit.proofs.Whole.{cleared-zeros, audited-empty, audited-cleared, audited-filled}
+use Rattle.audit.proofs.Whole.{chain-none, cleared-zeros, audited-empty, audited-cleared, audited-filled}
 use borrow.Author.Needs.{needs}
 use Rattle.audit.proofs.run.read.Statement.{statement}
 use Rattle.audit.proofs.run.read.Tie as tie
@@ -32,14 +32,21 @@ returns c =
     (sym (c .before .before .is-empty .ensures) ∙ c .before .if1 .taken) (c .refused .result) (c .refused .ensures)
     (at-clear .clear .ensures) (c .before .before .before .before .before .clear2 .ensures)
 
+slice-aggregate-run : tie.Need-slice-aggregate-run
+slice-aggregate-run c = search needs
+
+slice-aggregate-run-2 : tie.Need-slice-aggregate-run-2
+slice-aggregate-run-2 c = search needs
+
 run-requires : tie.Need-run-requires
 run-requires c κs =
-    let at-clear2 = c .before .before .before .before .before .before in
+    let at-clear2 = c .before .before .before .before .before .before .before .before in
     let at-clear = at-clear2 .before .before .before .before in
     let start = at-clear .before .before .before .before .before .before in
-    let x = start .args in
-    cleared-zeros (x .board .now) (x .verdicts .now) (x .index .now) (x .ballots .now) (start .pre) _ _ (at-clear .clear .ensures)
-    (at-clear2 .clear2 .ensures)
+    let x = start .args in (
+      cleared-zeros (x .board .now) (x .verdicts .now) (x .index .now) (x .ballots .now) (start .pre) _ _ (at-clear .clear .ensures) (at-clear2 .clear2 .ensures),
+      (chain-none _, chain-none _),
+    )
 
 enum-told : tie.Need-enum-told
 enum-told c = search needs
@@ -63,8 +70,8 @@ returns-2 : tie.Need-returns-2
 returns-2 c =
     let at-clear3 = c .before .before .before .before .before .before in
     let at-enum-told = at-clear3 .before .before in
-    let at-run = at-enum-told .before .before .before .before .before .before in
-    let one = at-run .before .before .before in
+    let at-run = at-enum-told .before .before .before .before .before .before .before .before in
+    let one = at-run .before .before .before .before .before in
     let at-is-empty = one .before in
     let at-clear2 = at-is-empty .before .before .before in
     let at-clear = at-clear2 .before .before .before .before in
@@ -84,8 +91,8 @@ same-length-6 c = search needs
 
 returns-3 : tie.Need-returns-3
 returns-3 c =
-    let at-run = c .before .before .before .before .before .before in
-    let one = at-run .before .before .before in
+    let at-run = c .before .before .before .before .before .before .before .before in
+    let one = at-run .before .before .before .before .before in
     let at-is-empty = one .before in
     let at-clear2 = at-is-empty .before .before .before in
     let at-clear = at-clear2 .before .before .before .before in
@@ -107,6 +114,8 @@ read-spec =
     same-length
     same-length-2
     returns
+    slice-aggregate-run
+    slice-aggregate-run-2
     run-requires
     enum-told
     clear-requires-3
