@@ -46,26 +46,26 @@ module _ (bucket : ℕ → ℕ) where
   -- ---- the last item of a bucket
 
   -- item n + 1 is in the bucket, or is not
-  here : (b n : ℕ) → eqb (bucket (suc n)) b ≡ true → lastIn bucket b (suc n) ≡ suc n
+  pub lastIn-here : (b n : ℕ) → eqb (bucket (suc n)) b ≡ true → lastIn bucket b (suc n) ≡ suc n
   unfolding lastIn if_then_else_
-  here b n q = rw q
+  lastIn-here b n q = rw q
 
-  past : (b n : ℕ) → eqb (bucket (suc n)) b ≡ false → lastIn bucket b (suc n) ≡ lastIn bucket b n
+  pub lastIn-past : (b n : ℕ) → eqb (bucket (suc n)) b ≡ false → lastIn bucket b (suc n) ≡ lastIn bucket b n
   unfolding lastIn if_then_else_
-  past b n q = rw q
+  lastIn-past b n q = rw q
 
   pub lastIn-le : (b n : ℕ) → lastIn bucket b n ≤ n
   unfolding lastIn
   lastIn-le b zero = le-refl 0
   lastIn-le b (suc n) =
-      by-test (eqb (bucket (suc n)) b) (λ q. omega (arith, here b n q)) (λ q. omega (arith, past b n q, lastIn-le b n))
+      by-test (eqb (bucket (suc n)) b) (λ q. omega (arith, lastIn-here b n q)) (λ q. omega (arith, lastIn-past b n q, lastIn-le b n))
 
   -- it is the last of those up to itself
   pub lastIn-self : (b n : ℕ) → lastIn bucket b (lastIn bucket b n) ≡ lastIn bucket b n
   unfolding lastIn
   lastIn-self b zero = refl
   lastIn-self b (suc n) =
-      by-test (eqb (bucket (suc n)) b) (λ q. ap (lastIn bucket b) (here b n q)) (λ q. rw (past b n q) (lastIn-self b n))
+      by-test (eqb (bucket (suc n)) b) (λ q. ap (lastIn bucket b) (lastIn-here b n q)) (λ q. rw (lastIn-past b n q) (lastIn-self b n))
 
   -- it is in the bucket
   pub lastIn-own : (b k : ℕ) → 1 ≤ k → lastIn bucket b k ≡ k → bucket k ≡ b
@@ -73,7 +73,7 @@ module _ (bucket : ℕ → ℕ) where
   lastIn-own b (suc k) s e =
       by-test (eqb (bucket (suc k)) b)
       (λ q. eqb-true (bucket (suc k)) b q)
-      (λ q. let less = lastIn-le b k in let same = past b k q in omega arith)
+      (λ q. let less = lastIn-le b k in let same = lastIn-past b k q in omega arith)
 
   -- ---- what the table holds
 
@@ -88,11 +88,11 @@ module _ (bucket : ℕ → ℕ) where
         (λ q.
         ap (λ (x : ℕ). getD (linked t own (suc n)) x 0) (sym (eqb-true own b q))
         ∙ linked-last t own (suc n) (omega (arith, small (suc n), chain-length n))
-        ∙ sym (here b n q))
+        ∙ sym (lastIn-here b n q))
         (λ q.
         linked-other t own (suc n) b (λ e. eqb-false own b q (sym e)) (λ e. omega arith)
         ∙ chain-last b n l (omega arith)
-        ∙ sym (past b n q))
+        ∙ sym (lastIn-past b n q))
 
     pub chain-behind : (k n : ℕ) → 1 ≤ k → k ≤ n → n ≤ itemLimit → getD (chain bucket n) (buckets + k) 0 ≡ lastIn bucket (bucket k) (k - 1)
     unfolding chain

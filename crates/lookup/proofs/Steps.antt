@@ -4,7 +4,7 @@ use Prim.Native.Nat.{ℕ, zero, suc, _+_, _-_, _≤_, _<_}
 use native.Mathlib.Nat.{not-suc-le-zero}
 use native.Mathlib.Numerals.{add-one}
 use native.Mathlib.Omega.{arith}
-use mathlib.Core.Path.{_≡_, refl, sym, ap}
+use mathlib.Core.Path.{_≡_, refl, ap, _∙_}
 use mathlib.Core.Logic.{_≢_}
 use mathlib.Core.Bool.{Bool, true, false}
 use mathlib.Core.List.{List, [], _∷_, _++_}
@@ -13,9 +13,9 @@ use lib.Seq.{drop-cons, take-suc, length-take-le, take-all}
 use lib.Dec.{eqb, eqb·suc-zero}
 use borrow.Author.Tests.{eq-eqb, ne-eqb}
 use Rattle.model.specs.Lists.{if_then_else_, any}
-use Rattle.model.specs.History.{History, Entry, absent, entry, main, firstFrom, last, lastFrom}
+use Rattle.model.specs.History.{History, Entry, absent, entry, main, first, firstFrom, last, lastFrom}
 use Rattle.model.proofs.Tests.{by-test}
-use Rattle.model.proofs.State.{last-snoc}
+use Rattle.model.proofs.State.{first-snoc, last-snoc}
 use Rattle.model.proofs.Unchecked.{length-history}
 use Rattle.format.specs.Base.{base}
 use Rattle.index.specs.Kept.{before}
@@ -74,14 +74,6 @@ module _ (board : List ℕ) (n : ℕ) where
 
   module _ (p : Entry → Bool) (k : ℕ) where
     module _ (s : 1 ≤ k) (l : k ≤ n) (r : Bool) (told : r ≡ p (entry h k)) where
-      pub first-stops : r ≡ true → firstFrom k p (from k) ≡ k
-      unfolding firstFrom if_then_else_
-      first-stops q = rw (from-k k s l, ← told, q)
-
-      pub first-goes : r ≡ false → firstFrom k p (from k) ≡ firstFrom (k + 1) p (from (k + 1))
-      unfolding firstFrom if_then_else_
-      first-goes q = rw (from-k k s l, ← told, q, add-one)
-
       pub any-stops : r ≡ true → any p (from k) ≡ true
       unfolding any
       any-stops q = rw (from-k k s l, ← told, q)
@@ -90,37 +82,41 @@ module _ (board : List ℕ) (n : ℕ) where
       unfolding any
       any-goes q = rw (from-k k s l, ← told, q)
 
-    pub first-ends : n < k → firstFrom k p (from k) ≡ 0
-    unfolding firstFrom
-    first-ends l = rw (from-past k l)
-
     pub any-ends : n < k → any p (from k) ≡ false
     unfolding any
     any-ends l = rw (from-past k l)
 
   -- ---- down from the last item
 
+  -- the items up to number k
+  abbrev pub upTo : ℕ → History
+  upTo k = take k h
+
+  pub to-all : upTo n ≡ h
+  to-all = take-all n h (omega (arith, length-history base board n))
+
   module _ (p : Entry → Bool) where
-    pub last-all : last p h ≡ last p (take n h)
-    last-all = ap (last p) (sym (take-all n h (omega (arith, length-history base board n))))
-
-    pub last-ends : (k : ℕ) → k ≤ 0 → last p (take k h) ≡ 0
+    pub last-ends : (k : ℕ) → k ≡ 0 → last p (upTo k) ≡ 0
     unfolding lastFrom
-    last-ends k l = let none : k ≡ 0 = omega arith in rw none
+    last-ends k none = rw none
 
-    module _ (k : ℕ) (s : 1 ≤ k) (l : k ≤ n) (r : Bool) (told : r ≡ p (entry h k)) where
+    pub first-ends : (k : ℕ) → k ≡ 0 → first p (upTo k) ≡ 0
+    unfolding firstFrom
+    first-ends k none = rw none
+
+    module _ (k : ℕ) (s : 1 ≤ k) (l : k ≤ n) where
       within : k ≤ length h
       within = omega (arith, length-history base board n)
 
-      pub last-stops : r ≡ true → last p (take k h) ≡ k
-      unfolding if_then_else_
-      last-stops q =
-          let size : length (take (k - 1) h) ≡ k - 1 = length-take-le (k - 1) h (omega (arith, within)) in
-          rw (to-entry h k s within, last-snoc, ← told, q) (omega arith)
+      size : suc (length (upTo (k - 1))) ≡ k
+      size = omega (arith, length-take-le (k - 1) h (omega (arith, within)))
 
-      pub last-goes : r ≡ false → last p (take k h) ≡ last p (take (k - 1) h)
-      unfolding if_then_else_
-      last-goes q = rw (to-entry h k s within, last-snoc, ← told, q)
+      pub last-step : last p (upTo k) ≡ (if p (entry h k) then k else last p (upTo (k - 1)))
+      last-step = ap (last p) (to-entry h k s within) ∙ last-snoc p (upTo (k - 1)) (entry h k) ∙ rw size
+
+      pub first-step : first p (upTo k)
+          ≡ (if eqb (first p (upTo (k - 1))) 0 then (if p (entry h k) then k else 0) else first p (upTo (k - 1)))
+      first-step = ap (first p) (to-entry h k s within) ∙ first-snoc p (upTo (k - 1)) (entry h k) ∙ rw size
 
   -- ---- up to a main number
 

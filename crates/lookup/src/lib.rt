@@ -1,5 +1,6 @@
 // Searches among the items that were passed: the parent and the session of an item, the latest session of a voter, the children of an
-// item, a main item by its main number. Each reads the board through the index table.
+// item, a main item by its main number. Each reads the board through the index table; the searches for a parent and for a session pass
+// the items of one bucket alone, by their chain tables.
 ghost use mathlib.Core.Path.{_≡_};
 ghost use mathlib.Core.Bool.{_&&_};
 ghost use Prim.Native.Nat.{_+_, _-_, _≤_};
@@ -16,11 +17,10 @@ ghost use Rattle.format.specs.Base.{base};
 ghost use Rattle.format.specs.Layout.{itemOf};
 ghost use Rattle.index.specs.Kept.{before, Kept};
 ghost use Rattle.index.specs.Known.{IsKnown};
-ghost use Rattle.lookup.specs.Search.{entryFrom, addressed, otherStart, mainEntry};
+ghost use Rattle.lookup.specs.Search.{entryFrom, addressed, mainEntry};
 ghost use Rattle.lookup.specs.Buckets.{parentChain, sessionChain};
 use format::head::Head;
 use format::item::Item;
-use format::limit::Limit;
 use index::Known;
 
 pub mod bucket;
@@ -36,35 +36,18 @@ fn is_addressed(board: &[u32], e: Known, main: bool, at: usize) -> bool
     words::same_words(board, e.item.address, board, at, Item::ADDRESS)
 }
 
-// Whether the address of item number k, which stands before the next item, begins with another word than the one at a place of the board:
-// that is told from the next item's row. No where there is no next item.
-fn begins_otherwise(board: &[u32], index: &[u32], count: usize, k: usize, at: usize) -> bool
-    requires { ⌜ Kept (now board) (now index) count ⌝ }
-    requires { ⌜ (1 ≤ k) × (k ≤ count) × (at + 8 ≤ length (now board)) ⌝ }
-    ensures { λ r. ⌜ r ≡ otherStart (now (board .entry)) count k at ⌝ }
-{
-    if count <= k {
-        return false;
-    }
-    let own = words::wide(index[Limit::INDEX_ROW * k]) - Item::ADDRESS;
-    board[own] != board[at]
-}
-
-// Whether item number k is of a kind, main or hidden, and has the address that stands at a place of the board. Most items are told from
-// the first word of their address.
+// Whether item number k is of a kind, main or hidden, and has the address that stands at a place of the board.
 fn is_at(board: &[u32], index: &[u32], count: usize, k: usize, main: bool, at: usize) -> bool
     requires { ⌜ Kept (now board) (now index) count ⌝ }
     requires { ⌜ (1 ≤ k) × (k ≤ count) × (at + 8 ≤ length (now board)) ⌝ }
     ensures { λ r. ⌜ r ≡ addressed main (part at 8 (now (board .entry))) (entry (before (now (board .entry)) count) k) ⌝ }
 {
-    if begins_otherwise(board, index, count, k, at) {
-        return false;
-    }
     let e = index::entry(board, index, count, k);
     is_addressed(board, e, main, at)
 }
 
-// The number of the first item, main or hidden, with the address that stands at a place of the board; 0 where there is none.
+// The number of the first item, main or hidden, with the address that stands at a place of the board; 0 where there is none. The chain
+// of its bucket goes from the latest item back, so it is the last one found.
 fn first_addressed(
     board: &[u32],
     index: &[u32],
@@ -76,14 +59,15 @@ fn first_addressed(
     requires { ⌜ (Kept (now board) (now index) count) × (now parents ≡ parentChain (now board) count) × (at + 8 ≤ length (now board)) ⌝ }
     ensures { λ r. ⌜ r ≡ first (addressed main (part at 8 (now (board .entry)))) (before (now (board .entry)) count) ⌝ }
 {
-    let mut number = 1;
-    while number <= count {
+    let mut number = chains::last(parents, bucket::of_address(board[at]));
+    let mut found = 0;
+    while number != 0 {
         if is_at(board, index, count, number, main, at) {
-            return number;
+            found = number;
         }
-        number += 1;
+        number = chains::behind(parents, number);
     }
-    0
+    found
 }
 
 // The number of the parent of the item at a place, after the first count items: its own for genesis, 0 where it is not found.
@@ -156,13 +140,13 @@ pub fn latest_session(
     requires { ⌜ (Kept (now board) (now index) count) × (now sessions ≡ sessionChain (now board) count) ⌝ }
     ensures { λ r. ⌜ r ≡ last (sessionOf voter) (before (now (board .entry)) count) ⌝ }
 {
-    let mut k = count;
-    while 0 < k {
+    let mut k = chains::last(sessions, bucket::of_voter(voter));
+    while k != 0 {
         let e = index::entry(board, index, count, k);
         if is_session_of(board, e, voter) {
             return k;
         }
-        k -= 1;
+        k = chains::behind(sessions, k);
     }
     0
 }
