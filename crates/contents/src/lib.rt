@@ -8,12 +8,6 @@ ghost use Rattle.tally.specs.Tallied.{Tallied};
 use index::Known;
 use state::State;
 
-pub mod config;
-pub mod content;
-pub mod extraction;
-pub mod range;
-pub mod voting;
-
 // 13, bad content: the content is as the rule of the item's type asks.
 pub fn content_ok(board: &[u32], index: &[u32], ballots: &[u32], s: State, c: Known) -> bool
     requires { ⌜ (AtItem (now board) (now index) s c) × (Tallied (now board) (now ballots) (s .items)) ⌝ }

@@ -2,7 +2,7 @@
 use mathlib.Core.Path.{refl}
 use borrow.Author.Tests.{not-true, not-false}
 use Rattle.index.specs.Kept.{before, itemAfter}
-use Rattle.contents.proofs.ExtractionRules.{content-is}
+use Rattle.contents.proofs.Parts.{content-is}
 use borrow.Author.Needs.{needs}
 use Rattle.contents.proofs.content_ok.Statement.{statement}
 use Rattle.contents.proofs.content_ok.Tie as tie

@@ -1,0 +1,24 @@
+-- The three parts of check 13 together. Assumes nothing.
+use mathlib.Core.Path.{_≡_}
+use mathlib.Core.Bool.{Bool, _&&_}
+use Rattle.model.specs.Item.{Item}
+use Rattle.model.specs.History.{History}
+use Rattle.model.specs.Content.{contestOk, thresholdOk, authorizerOk, roundOk, sessionOk, commitmentOk, ballotOk, fingerprintOk, trusteesOk, contentOk}
+use Rattle.model.proofs.Tests.{by-test}
+use Rattle.format.specs.Base.{base}
+
+module _ (h : History) (i : Item) where
+  abbrev config : Bool
+  config = contestOk i && thresholdOk i && authorizerOk i && roundOk h i
+
+  abbrev voting : Bool
+  voting = sessionOk h i && commitmentOk base i && ballotOk base h i
+
+  abbrev extraction : Bool
+  extraction = fingerprintOk base h i && trusteesOk h i
+
+  pub content-is : (x y z : Bool) → x ≡ config → y ≡ voting → z ≡ extraction → (x && y && z) ≡ contentOk base h i
+  unfolding contentOk
+  content-is x y z d e f =
+      rw (d, e, f)
+      (by-test config (λ q. rw q (by-test voting (λ r. rw r) (λ r. rw r))) (λ q. rw q))

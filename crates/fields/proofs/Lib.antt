@@ -1,0 +1,2 @@
+-- Laws of the words of an item's content.
+pub mod Words

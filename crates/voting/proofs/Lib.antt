@@ -1,0 +1,2 @@
+-- The rules of session, commitments and ballot, by their tests.
+pub mod Rules
