@@ -1,7 +1,7 @@
 -- The buckets that the code gives an item that passes are the definition's, and the chain tables with it are those of one item more.
 -- Assumes nothing.
 use Prim.Native.Nat.{ℕ, zero, suc, _+_, _%_, _≤_, _<_}
-use native.Mathlib.Nat.{add-zero, mod-lt}
+use native.Mathlib.Nat.{add-zero}
 use native.Mathlib.Numerals.{add-one}
 use native.Mathlib.Omega.{arith}
 use mathlib.Core.Path.{_≡_, refl, sym, _∙_}
@@ -30,10 +30,10 @@ use Rattle.lookup.specs.Buckets.{ofVoter, ofSession, byAddress, byVoter,
 -- ---- a bucket is one of the 2,048
 
 pub address-small : (w : ℕ) → w % buckets < buckets
-address-small w = mod-lt w {m = 2048} (lit< tt)
+address-small w = omega arith
 
 pub voter-small : (v : ℕ) → ofVoter v < buckets
-voter-small v = omega (arith, mod-lt v {m = 2047} (lit< tt))
+voter-small v = omega arith
 
 session-small : (i : Item) → ofSession i < buckets
 unfolding if_then_else_

@@ -36,7 +36,7 @@ of-address-requires : tie.Need-of-address-requires Inv-loop μ-loop
 of-address-requires c κs = search needs
 
 last-requires : tie.Need-last-requires Inv-loop μ-loop
-last-requires c κs = let s = c .before .before .before .before .before in (chain-words _ _ (s .pre .1), rw (c .of-address .ensures) (address-small _))
+last-requires c κs = let s = c .before .before .before .before .before in (chain-words _ _ (s .pre .1), omega (arith, c .of-address .ensures))
 
 loop-holds : tie.Need-loop-holds Inv-loop μ-loop
 loop-holds c =

@@ -28,7 +28,7 @@ of-voter-requires : tie.Need-of-voter-requires Inv-loop μ-loop
 of-voter-requires c κs = search needs
 
 last-requires : tie.Need-last-requires Inv-loop μ-loop
-last-requires c κs = let s = c .before .before .before .before in (chain-words _ _ (s .pre .1), rw (c .of-voter .ensures) (voter-small _))
+last-requires c κs = let s = c .before .before .before .before in (chain-words _ _ (s .pre .1), omega (arith, c .of-voter .ensures))
 
 loop-holds : tie.Need-loop-holds Inv-loop μ-loop
 loop-holds c =

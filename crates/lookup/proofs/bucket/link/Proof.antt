@@ -1,7 +1,7 @@
 -- `link` meets its contract: each table gets the item in its bucket. Assumes nothing.
 use native.Mathlib.Omega.{arith}
 use borrow.Author.Needs.{needs}
-use Rattle.lookup.proofs.Buckets.{address-inside, parents-next, session-inside, sessions-next, chain-words, address-small}
+use Rattle.lookup.proofs.Buckets.{address-inside, parents-next, session-inside, sessions-next, chain-words}
 use Rattle.lookup.proofs.bucket.link.Statement.{statement}
 use Rattle.lookup.proofs.bucket.link.Tie as tie
 
@@ -20,7 +20,7 @@ of-address-requires c κs = search needs
 put-requires : tie.Need-put-requires
 put-requires c κs =
     let s = c .before .before .before .before .before .before .before in
-    (chain-words _ _ (s .pre .1 .0), rw (c .of-address .ensures) (address-small _), omega (arith, s .pre .0 .more))
+    (chain-words _ _ (s .pre .1 .0), omega (arith, c .of-address .ensures), omega (arith, s .pre .0 .more))
 
 of-session-requires : tie.Need-of-session-requires
 of-session-requires c κs = search needs
