@@ -1,5 +1,5 @@
 -- Laws of one block: the words of the message schedule, and the rounds over it.
-use mathlib.Core.Path.{_≡_, refl, sym, ap, ap₂, _∙_}
+use mathlib.Core.Path.{_≡_, refl, sym, ap, ap₂, _∙_, subst}
 use mathlib.Core.Logic.{⊎-elim}
 use Prim.Native.Nat.{ℕ, zero, suc, _+_, _-_, _≤_, _<_}
 use mathlib.Core.List.{List, [], _∷_}
@@ -9,9 +9,10 @@ use native.Mathlib.Omega.{arith}
 use borrow.Author.Tests.{lt-ltb, le-ltb, ltb-true, ltb-false}
 use mathlib.Core.Bool.{Bool, true, false}
 use lib.Dec.{ltb}
-use lib.ListN.{length, getD, take, set, length-append, List·getD-append}
+use lib.ListN.{length, getD, take, set, length-set, length-append, List·getD-append}
 use lib.Seq.{getD-at, getD-take, take-suc-set}
 use Rattle.sha256.specs.Fips.{_⊞_, smallSigma0, smallSigma1, K, messageWord, schedule, round, rounds, initialize, intermediate, compress}
+use Rattle.sha256.specs.Rounds.{Reached, Onward}
 use Rattle.sha256.specs.declared.block.Working.{Working}
 
 -- ---- messageWord
@@ -75,24 +76,59 @@ module _ (M : List ℕ) where
       ∙ messageWord-before M (schedule M t) (schedule M 64) t (λ j r. schedule-more M t 64 j r (omega arith))
       ∙ messageWord-next M (schedule M 64) t p
 
--- ---- the loop over the rounds: w begins with the words of the schedule so far
+-- ---- the rounds as the code does them: each makes its word of the schedule and stores it
 
-module _ (M w : List ℕ) (t x : ℕ) (started : take t w ≡ schedule M t) (made : x ≡ messageWord M w t) where
-  word-made : x ≡ messageWord M (schedule M t) t
-  word-made = made ∙ messageWord-before M w (schedule M t) t (λ j p. sym (getD-take t w j 0 p) ∙ ap (λ (l : List ℕ). getD l j 0) started)
+-- one round
+module _ (M w k : List ℕ) (t x : ℕ) (v r : Working) (named : k ≡ K) (made : x ≡ messageWord M w t) (done : r ≡ round v (getD k t 0) x) where
+  word-made : take t w ≡ schedule M t → x ≡ messageWord M (schedule M t) t
+  word-made e = made ∙ messageWord-before M w (schedule M t) t (λ j p. sym (getD-take t w j 0 p) ∙ ap (λ (l : List ℕ). getD l j 0) e)
 
-  pub schedule-stored : t < length w → take (t + 1) (set w t x) ≡ schedule M (t + 1)
+  schedule-stored : t < length w → take t w ≡ schedule M t → take (t + 1) (set w t x) ≡ schedule M (t + 1)
   unfolding schedule
-  schedule-stored p = rw (add-one, take-suc-set w t, started, ← word-made)
+  schedule-stored p e = rw (add-one, take-suc-set w t, e, ← word-made e)
 
-  pub rounds-suc : (v v₀ r : Working) → t < 64 → v ≡ rounds (schedule M 64) v₀ t → r ≡ round v (getD K t 0) x
-      → r ≡ rounds (schedule M 64) v₀ (t + 1)
+  rounds-suc : (first : Working) → t < 64 → take t w ≡ schedule M t → v ≡ rounds (schedule M 64) first t
+      → r ≡ rounds (schedule M 64) first (t + 1)
   unfolding rounds
-  rounds-suc v v₀ r p e d =
-      d ∙ ap₂ (λ (u : Working) (y : ℕ). round u (getD K t 0) y) e (word-made ∙ sym (getD-schedule M 64 t p))
-      ∙ sym (ap (rounds (schedule M 64) v₀) (add-one t))
+  rounds-suc first p e d =
+      done ∙ ap (λ (l : List ℕ). round v (getD l t 0) x) named
+      ∙ ap₂ (λ (u : Working) (y : ℕ). round u (getD K t 0) y) d (word-made e ∙ sym (getD-schedule M 64 t p))
+      ∙ sym (ap (rounds (schedule M 64) first) (add-one t))
 
-pub compress-end : (H M r : List ℕ) (v v₀ : Working) (t : ℕ) → t ≡ 64 → v₀ ≡ initialize H → v ≡ rounds (schedule M 64) v₀ t
-    → r ≡ intermediate H v → r ≡ compress H M
+  pub onward-one : t < 64 → Onward M t (t + 1) w v (set w t x) r
+  onward-one p first s = record {
+    sized = length-set w t x ∙ s .sized;
+    scheduled = schedule-stored (omega (arith, s .sized)) (s .scheduled);
+    worked = rounds-suc first p (s .scheduled) (s .worked);
+  }
+
+pub onward-to : {M : List ℕ} {t u u′ : ℕ} {w w₁ : List ℕ} {v v₁ : Working} → u ≡ u′ → Onward M t u w v w₁ v₁ → Onward M t u′ w v w₁ v₁
+onward-to {M} {w₁ = w₁} {v₁ = v₁} e f first s = subst (λ (n : ℕ). Reached M first n w₁ v₁) e (f first s)
+
+-- what ends where the next begins
+pub onward-then : {M : List ℕ} {t u u′ z : ℕ} {w w₁ w₂ : List ℕ} {v v₁ v₂ : Working} → u ≡ u′
+    → Onward M t u w v w₁ v₁ → Onward M u′ z w₁ v₁ w₂ v₂ → Onward M t z w v w₂ v₂
+onward-then e f g first s = g first (onward-to e f first s)
+
+pub onward-four : (M : List ℕ) (t : ℕ) {w w₁ w₂ w₃ w₄ : List ℕ} {v v₁ v₂ v₃ v₄ : Working}
+    → Onward M t (t + 1) w v w₁ v₁ → Onward M (t + 1) (t + 1 + 1) w₁ v₁ w₂ v₂ → Onward M (t + 2) (t + 2 + 1) w₂ v₂ w₃ v₃
+    → Onward M (t + 3) (t + 3 + 1) w₃ v₃ w₄ v₄ → Onward M t (t + 4) w v w₄ v₄
+onward-four M t a b c d =
+    let e : t + 1 + 1 ≡ t + 2 = omega arith in
+    let f : t + 2 + 1 ≡ t + 3 = omega arith in
+    let g : t + 3 + 1 ≡ t + 4 = omega arith in
+    onward-to g (onward-then f (onward-then e (onward-then refl a b) c) d)
+
+-- no round yet
+pub reached-none : (M w : List ℕ) (first : Working) → length w ≡ 64 → Reached M first 0 w first
+unfolding schedule rounds
+reached-none M w first n = record {
+  sized = n;
+  scheduled = refl;
+  worked = refl;
+}
+
+-- all of them
+pub compress-end : (H M r w : List ℕ) (v first : Working) → first ≡ initialize H → Reached M first 64 w v → r ≡ intermediate H v → r ≡ compress H M
 unfolding compress
-compress-end H M r v v₀ t n e d f = cc
+compress-end H M r w v first e s f = let d = s .worked in cc

@@ -7,9 +7,11 @@ use crate::functions::maj;
 use crate::functions::small_sigma0;
 use crate::functions::small_sigma1;
 ghost use mathlib.Core.Path.{_≡_};
-ghost use Prim.Native.Nat.{_<_};
+ghost use Prim.Native.Nat.{ℕ, _+_, _<_, _≤_};
+ghost use mathlib.Core.List.{List};
 ghost use lib.ListN.{length};
 ghost use Rattle.sha256.specs.Fips as fips;
+ghost use Rattle.sha256.specs.Rounds.{Onward};
 
 // The constants of the rounds (4.2.2).
 const K: [u32; 64] = [
@@ -103,24 +105,6 @@ pub struct Working {
     pub h: u32,
 }
 
-// W at t, of the block m and the words of the schedule before t, which w begins with.
-fn message_word(m: &[u32], w: &[u32; 64], t: usize) -> u32
-    requires { ⌜ (length (now m) ≡ 16) × (t < 64) ⌝ }
-    ensures { λ r. ⌜ r ≡ fips.messageWord (now (m .entry)) (now (w .entry)) t ⌝ }
-{
-    if t < 16 {
-        m[t]
-    } else {
-        add(
-            add(
-                add(small_sigma1(w[t - 2]), w[t - 7]),
-                small_sigma0(w[t - 15]),
-            ),
-            w[t - 16],
-        )
-    }
-}
-
 fn initialize(h: [u32; 8]) -> Working
     ensures { λ r. ⌜ r ≡ fips.initialize h ⌝ }
 {
@@ -181,22 +165,103 @@ fn intermediate(h: [u32; 8], v: Working) -> [u32; 8]
     ]
 }
 
-// The hash value h after the block m of 16 words. Each word of the schedule is made in the round that uses it,
-// so that the two run side by side in the processor.
+// One of the first 16 rounds: W at t is the word of the block m at t (6.2.2, 1).
+fn first_step(v: Working, k: &[u32; 64], m: &[u32], w: &mut [u32; 64], t: usize) -> Working
+    requires { ⌜ (now k ≡ fips.K) × (length (now m) ≡ 16) × (t < 16) ⌝ }
+    ensures { λ r. ⌜ Onward (now (m .entry)) t (t + 1) (now (w .entry)) v (now (w .exit)) r ⌝ }
+{
+    let x = m[t];
+    w[t] = x;
+    round(v, k[t], x)
+}
+
+// Four of them in a row: after each the working variables change places, and after four no register has to be copied
+// for that.
+fn first_four(v: Working, k: &[u32; 64], m: &[u32], w: &mut [u32; 64], t: usize) -> Working
+    requires { ⌜ (now k ≡ fips.K) × (length (now m) ≡ 16) × (t + 4 ≤ 16) ⌝ }
+    ensures { λ r. ⌜ Onward (now (m .entry)) t (t + 4) (now (w .entry)) v (now (w .exit)) r ⌝ }
+{
+    let a = first_step(v, k, m, w, t);
+    let b = first_step(a, k, m, w, t + 1);
+    let c = first_step(b, k, m, w, t + 2);
+    first_step(c, k, m, w, t + 3)
+}
+
+// The first 16 rounds.
+fn first_rounds(start: Working, k: &[u32; 64], m: &[u32], w: &mut [u32; 64]) -> Working
+    requires { ⌜ (now k ≡ fips.K) × (length (now m) ≡ 16) ⌝ }
+    ensures { λ r. ⌜ Onward (now (m .entry)) 0 16 (now (w .entry)) start (now (w .exit)) r ⌝ }
+{
+    let mut v = start;
+    let mut t: usize = 0;
+    while t < 16 {
+        let next = first_four(v, k, m, w, t);
+        v = next;
+        t += 4;
+    }
+    v
+}
+
+// W at t, past the first 16, of the words before it, which w begins with (6.2.2, 1).
+fn message_word(w: &[u32; 64], t: usize) -> u32
+    requires { ⌜ (16 ≤ t) × (t < 64) ⌝ }
+    ensures { λ r. ⌜ ((M : List ℕ) → r ≡ fips.messageWord M (now (w .entry)) t) ⌝ }
+{
+    add(
+        add(
+            add(small_sigma1(w[t - 2]), w[t - 7]),
+            small_sigma0(w[t - 15]),
+        ),
+        w[t - 16],
+    )
+}
+
+// One of the other 48 rounds. Its word of the schedule is made in the round that uses it, so that the two run side
+// by side in the processor.
+fn step(v: Working, k: &[u32; 64], w: &mut [u32; 64], t: usize) -> Working
+    requires { ⌜ (now k ≡ fips.K) × (16 ≤ t) × (t < 64) ⌝ }
+    ensures { λ r. ⌜ ((M : List ℕ) → Onward M t (t + 1) (now (w .entry)) v (now (w .exit)) r) ⌝ }
+{
+    let x = message_word(w, t);
+    w[t] = x;
+    round(v, k[t], x)
+}
+
+// Four of them.
+fn four_steps(v: Working, k: &[u32; 64], w: &mut [u32; 64], t: usize) -> Working
+    requires { ⌜ (now k ≡ fips.K) × (16 ≤ t) × (t + 4 ≤ 64) ⌝ }
+    ensures { λ r. ⌜ ((M : List ℕ) → Onward M t (t + 4) (now (w .entry)) v (now (w .exit)) r) ⌝ }
+{
+    let a = step(v, k, w, t);
+    let b = step(a, k, w, t + 1);
+    let c = step(b, k, w, t + 2);
+    step(c, k, w, t + 3)
+}
+
+// The other 48 rounds.
+fn later_rounds(start: Working, k: &[u32; 64], w: &mut [u32; 64]) -> Working
+    requires { ⌜ now k ≡ fips.K ⌝ }
+    ensures { λ r. ⌜ ((M : List ℕ) → Onward M 16 64 (now (w .entry)) start (now (w .exit)) r) ⌝ }
+{
+    let mut v = start;
+    let mut t: usize = 16;
+    while t < 64 {
+        let next = four_steps(v, k, w, t);
+        v = next;
+        t += 4;
+    }
+    v
+}
+
+// The hash value h after the block m of 16 words.
 pub fn compress(h: [u32; 8], m: &[u32]) -> [u32; 8]
     requires { ⌜ length (now m) ≡ 16 ⌝ }
     ensures { λ r. ⌜ r ≡ fips.compress h (now (m .entry)) ⌝ }
 {
     let k = K;
     let mut w = [0u32; 64];
-    let mut v = initialize(h);
-    let mut t: usize = 0;
-    while t < 64 {
-        let x = message_word(m, &w, t);
-        w[t] = x;
-        let next = round(v, k[t], x);
-        v = next;
-        t += 1;
-    }
+    let start = initialize(h);
+    let after = first_rounds(start, &k, m, &mut w);
+    let v = later_rounds(after, &k, &mut w);
     intermediate(h, v)
 }

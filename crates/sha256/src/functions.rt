@@ -1,4 +1,6 @@
-// The functions of FIPS 180-4, 3.2 and 4.1.2, on words of 32 bits.
+// The functions of FIPS 180-4, 3.2 and 4.1.2, on words of 32 bits. Those of 4.1.2 have forms that take fewer
+// instructions than the standard's, which their contracts name: x ^ y rotated is x rotated ^ y rotated, and two
+// rotations are one by the sum of their amounts.
 ghost use mathlib.Core.Path.{_≡_};
 ghost use Prim.Native.Nat.{_<_};
 ghost use Rattle.sha256.specs.Fips as fips;
@@ -20,35 +22,36 @@ pub fn rotr(x: u32, n: u32) -> u32
 pub fn ch(x: u32, y: u32, z: u32) -> u32
     ensures { λ r. ⌜ r ≡ fips.ch x y z ⌝ }
 {
-    (x & y) ^ (!x & z)
+    ((y ^ z) & x) ^ z
 }
 
+// In the rounds x ^ y is what the next round has as y ^ z, so that it is made once.
 pub fn maj(x: u32, y: u32, z: u32) -> u32
     ensures { λ r. ⌜ r ≡ fips.maj x y z ⌝ }
 {
-    (x & y) ^ (x & z) ^ (y & z)
+    ((x ^ y) & (y ^ z)) ^ y
 }
 
 pub fn big_sigma0(x: u32) -> u32
     ensures { λ r. ⌜ r ≡ fips.bigSigma0 x ⌝ }
 {
-    rotr(x, 2) ^ rotr(x, 13) ^ rotr(x, 22)
+    rotr(x ^ rotr(x ^ rotr(x, 9), 11), 2)
 }
 
 pub fn big_sigma1(x: u32) -> u32
     ensures { λ r. ⌜ r ≡ fips.bigSigma1 x ⌝ }
 {
-    rotr(x, 6) ^ rotr(x, 11) ^ rotr(x, 25)
+    rotr(x ^ rotr(x ^ rotr(x, 14), 5), 6)
 }
 
 pub fn small_sigma0(x: u32) -> u32
     ensures { λ r. ⌜ r ≡ fips.smallSigma0 x ⌝ }
 {
-    rotr(x, 7) ^ rotr(x, 18) ^ (x >> 3)
+    rotr(x ^ rotr(x, 11), 7) ^ (x >> 3)
 }
 
 pub fn small_sigma1(x: u32) -> u32
     ensures { λ r. ⌜ r ≡ fips.smallSigma1 x ⌝ }
 {
-    rotr(x, 17) ^ rotr(x, 19) ^ (x >> 10)
+    rotr(x ^ rotr(x, 2), 17) ^ (x >> 10)
 }

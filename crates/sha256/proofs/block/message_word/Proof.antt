@@ -1,25 +1,19 @@
--- `block::message_word` meets its contract: the two cases of the standard's equation.
+-- `block::message_word` meets its contract.
 use borrow.Author.Needs.{needs}
-use mathlib.Core.Path.{sym}
-use Rattle.sha256.proofs.Rounds.{messageWord-first, messageWord-next}
+use Rattle.sha256.proofs.Rounds.{messageWord-next}
 use Rattle.sha256.proofs.block.message_word.Statement.{statement}
 use Rattle.sha256.proofs.block.message_word.Tie as tie
 
 returns : tie.Need-returns
-returns c =
-    let a = c .before .before .before .args in
-    sym (messageWord-first (a .m .now) (a .w .now) (a .t) (c .before .if1 .taken))
-
-returns-2 : tie.Need-returns-2
-returns-2 c =
-    let a = c .before .before .before .before .before .before .before .before .before .before .before .args in
-    cc (messageWord-next (a .m .now) (a .w .now) (a .t) (c .before .before .before .before .before .before .before .before .before .if1 .left))
+returns c M =
+    let s = c .before .before .before .before .before .before .before .before .before in
+    cc (messageWord-next M (s .args .w .now) (s .args .t) (s .pre .0))
 
 pub message-word-spec : {M : Type 1} → statement M
 message-word-spec =
     tie.close
     (tie.spec
-    (λ c. search needs) (λ c. search needs) (λ c. search needs) (λ c. search needs) (λ c. search needs)
-    (λ c κs. search needs) (λ c. search needs) (λ c. search needs) (λ c. search needs) (λ c κs. search needs)
-    (λ c. search needs) (λ c. search needs) (λ c. search needs) (λ c κs. search needs) (λ c κs. search needs)
-    (λ c. search needs) (λ c. search needs) (λ c κs. search needs) returns returns-2)
+    (λ c. search needs) (λ c. search needs) (λ c. search needs) (λ c κs. search needs) (λ c. search needs)
+    (λ c. search needs) (λ c. search needs) (λ c κs. search needs) (λ c. search needs) (λ c. search needs)
+    (λ c. search needs) (λ c κs. search needs) (λ c κs. search needs) (λ c. search needs) (λ c. search needs)
+    (λ c. search needs) (λ c κs. search needs) returns)

@@ -1,13 +1,11 @@
 -- `functions::big_sigma1` meets its contract.
 use borrow.Author.Needs.{needs}
-use Rattle.sha256.specs.Fips.{bigSigma1}
+use Rattle.sha256.proofs.Forms.{bigSigma1-form}
 use Rattle.sha256.proofs.functions.big_sigma1.Statement.{statement}
 use Rattle.sha256.proofs.functions.big_sigma1.Tie as tie
 
 returns : tie.Need-returns
-unfolding bigSigma1
-returns c = cc
+returns c = let s = c .before .before .before in cc (bigSigma1-form (s .args .x) (s .fits .x .fits))
 
 pub big-sigma1-spec : {M : Type 1} → statement M
-big-sigma1-spec =
-    tie.close (tie.spec (λ c κs. search needs) (λ c κs. search needs) (λ c κs. search needs) returns)
+big-sigma1-spec = tie.close (tie.spec (λ c κs. search needs) (λ c κs. search needs) (λ c κs. search needs) returns)

@@ -1,13 +1,11 @@
 -- `functions::small_sigma0` meets its contract.
 use borrow.Author.Needs.{needs}
-use Rattle.sha256.specs.Fips.{smallSigma0}
+use Rattle.sha256.proofs.Forms.{smallSigma0-form}
 use Rattle.sha256.proofs.functions.small_sigma0.Statement.{statement}
 use Rattle.sha256.proofs.functions.small_sigma0.Tie as tie
 
 returns : tie.Need-returns
-unfolding smallSigma0
-returns c = cc
+returns c = let s = c .before .before in cc (smallSigma0-form (s .args .x) (s .fits .x .fits))
 
 pub small-sigma0-spec : {M : Type 1} → statement M
-small-sigma0-spec =
-    tie.close (tie.spec (λ c κs. search needs) (λ c κs. search needs) returns)
+small-sigma0-spec = tie.close (tie.spec (λ c κs. search needs) (λ c κs. search needs) returns)
