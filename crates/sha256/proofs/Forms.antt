@@ -1,8 +1,8 @@
 -- The functions of 4.1.2 in the forms that the code has them, which take fewer instructions than the standard's.
 use mathlib.Core.Path.{_≡_, refl, sym, ap, ap₂, _∙_, subst}
 use mathlib.Core.Logic.{⊎-elim}
-use Prim.Native.Nat.{ℕ, zero, suc, _+_, _-_, _*_, _/_, _%_, _^_, _≤_, _<_}
-use native.Mathlib.Nat.{add-assoc, add-comm, add-mul, mul-assoc, add-zero, pow-suc, mod-lt, mul-mod-left, div-add-mod', lt-of-le-of-lt, eq-or-lt-of-le}
+use Prim.Native.Nat.{ℕ, zero, suc, _+_, _-_, _*_, _/_, _%_, _^_, _<_}
+use native.Mathlib.Nat.{add-assoc, add-comm, add-mul, mul-assoc, add-zero, pow-suc, mod-lt, mul-mod-left, lt-of-le-of-lt, eq-or-lt-of-le}
 use native.Mathlib.Omega.{arith}
 use lib.Arith.{lt-one}
 use lib.Bits.{bitAnd, bitOr, bitXor, or-lt, xor-lt, or-shifted-r, xor-block, and-shr, xor-shr, and-mod, xor-mod}

@@ -20,7 +20,9 @@ returns c =
     let f = l .before .before .before in
     let i = f .before .before .before in
     let a = i .before .before .args in
-    compress-end (a .h) (a .m .now) _ _ _ _ (i .initialize .ensures) (l .later-rounds .ensures (a .m .now) _ (f .first-rounds .ensures _ (reached-none (a .m .now) _ _ refl))) (c .intermediate .ensures)
+    let after = f .first-rounds .ensures _ (reached-none (a .m .now) _ _ refl) in
+    compress-end
+    (a .h) (a .m .now) _ _ _ _ (i .initialize .ensures) (l .later-rounds .ensures (a .m .now) _ after) (c .intermediate .ensures)
 
 pub compress-spec : {M : Type 1} → statement M
 compress-spec =
