@@ -7,6 +7,11 @@
 //! Times are of the processor (Linux), not of the wall clock: on a busy machine a run of some
 //! milliseconds is nearly always interrupted. `spread` is the reference's median over its best.
 //! Where it is far from 1 the machine was too busy, and the row's ratios say little.
+//! `us/item` is the library's time for an item: boards of one kind have about as many words to
+//! an item, so it stays where the cost grows with the items and no faster.
+//!
+//! Ends with status 1 where the library misses a bar: the reference's time on every board, and
+//! one and a half times the hashes alone on boards of 2,048 items.
 
 use reference::audit::{audit_with, hashed};
 use reference::format::*;
@@ -41,6 +46,11 @@ fn now() -> f64 {
     time.seconds as f64 * 1e6 + time.nanoseconds as f64 / 1e3
 }
 
+/// The most time that the library may take, over the reference's.
+const BAR_TO_REFERENCE: f64 = 1.0;
+/// And over the hashes alone, on boards with as many items as there may be.
+const BAR_TO_HASHES: f64 = 1.5;
+
 fn main() {
     let mut args = std::env::args().skip(1);
     let folder = match args.next().as_deref() {
@@ -55,19 +65,25 @@ fn main() {
             None => "is NOT linked",
         }
     );
-    println!("   items    words  reference   spread  hash only    library  lib/ref  lib/hash");
+    println!("   items    words  reference   spread  hash only    library  lib/ref  lib/hash  us/item");
     let shapes = [(100, None), (500, None), (2_048, None), (230, Some(16_384)), (2_048, Some(MAX_WORDS))];
+    let mut met = true;
     for (items, words) in shapes {
         let shape = Shape { items, words, long: 10, voters: items / 8, extraction: true };
         let board = make(&mut Random::new(2026), sha256, shape).plan.lay(sha256);
         if let Some(folder) = &folder {
             write(Path::new(folder), items, &board);
         }
-        row(items, &board);
+        met &= row(items, &board);
+    }
+    if !met {
+        println!("a bar is missed: lib/ref {BAR_TO_REFERENCE:.2}, lib/hash {BAR_TO_HASHES:.2} at {MAX_ITEMS} items");
+        std::process::exit(1);
     }
 }
 
-fn row(items: usize, board: &Laid) {
+/// Prints a board's row. Whether the library, where it is linked, keeps within the bars.
+fn row(items: usize, board: &Laid) -> bool {
     let (words, verdicts) = (&board.words, &board.verdicts);
     let (mut index, mut ballots) = (vec![7; INDEX_NEED], vec![7; BALLOTS_NEED]);
     let (report, history) = audit_with(sha256, words, verdicts, &mut index, &mut ballots);
@@ -107,13 +123,16 @@ fn row(items: usize, board: &Laid) {
     let reference = by_reference[0];
     let spread = by_reference[rounds / 2] / reference;
     let mut line = format!("{items:>8} {:>8} {reference:>10.1} {spread:>8.2} {hashes:>10.1}", words.len());
-    if library().is_some() {
-        let (to_reference, to_hashes) = (by_library / reference, by_library / hashes);
-        line += &format!(" {by_library:>10.1} {to_reference:>8.2} {to_hashes:>9.2}");
+    let (to_reference, to_hashes) = (by_library / reference, by_library / hashes);
+    let linked = library().is_some();
+    if linked {
+        let each = by_library / items as f64;
+        line += &format!(" {by_library:>10.1} {to_reference:>8.2} {to_hashes:>9.2} {each:>8.2}");
     } else {
-        line += "          -        -         -";
+        line += "          -        -         -        -";
     }
     println!("{line}");
+    !linked || to_reference <= BAR_TO_REFERENCE && (items < MAX_ITEMS || to_hashes <= BAR_TO_HASHES)
 }
 
 fn write(folder: &Path, items: usize, board: &Laid) {
