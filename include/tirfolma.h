@@ -5,6 +5,7 @@
      is 0, the pointer is not followed; it may not be null, so pass the address of any word.
    - A buffer that is lent for writing overlaps no other buffer of the call. Those that are only read may overlap.
    - No other thread writes a buffer, or reads one that is lent for writing, during the call.
+   - The stack has room: an audit takes some 34 KiB of it, and ancestry, which calls itself for each parent, up to 130 KiB more.
    The functions keep nothing, allocate nothing, and may be called from several threads at once. */
 #ifndef TIRFOLMA_H
 #define TIRFOLMA_H
