@@ -19,7 +19,7 @@ use Rattle.tally.specs.Tallied.{Tallied}
 use Rattle.judge.specs.Judged.{IsJudged}
 use Rattle.judge.specs.declared.Judged.{Judged}
 use Rattle.judge.specs.declared.Judged.the-variants.{Passes, Fails}
-use Rattle.judge.proofs.First.{number-some}
+use Rattle.refusal.proofs.Laws.{number-some}
 use Rattle.audit.specs.Steps.{Reached, Stepped}
 
 -- the main items before the next one are all of them

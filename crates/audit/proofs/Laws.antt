@@ -22,11 +22,11 @@ use Rattle.refusal.specs.declared.Refusal.{Refusal}
 use Rattle.format.specs.Base.{base}
 use Rattle.index.specs.Kept.{before, Kept}
 use Rattle.tally.specs.Tallied.{Tallied}
-use Rattle.judge.proofs.First.{number-some}
-use Rattle.audit.specs.declared.report.Report.{Report}
-use Rattle.audit.specs.declared.report.Answer.{Answer}
-use Rattle.audit.specs.declared.report.Answer.the-variants.{Accepted, Refused}
-use Rattle.audit.specs.Reported.{answered, reported}
+use Rattle.refusal.proofs.Laws.{number-some}
+use Rattle.report.specs.declared.Report.{Report}
+use Rattle.report.specs.declared.Answer.{Answer}
+use Rattle.report.specs.declared.Answer.the-variants.{Accepted, Refused}
+use Rattle.report.specs.Reported.{answered, reported}
 use Rattle.audit.proofs.Whole.{Audited, outcome, refused-number, accepted-number}
 
 -- a sound board, and a table with the rows of its items

@@ -1,6 +1,5 @@
 -- The audit's loop follows the model's, and what its report tells.
 pub mod Advance
-pub mod Close
 pub mod Loop
 pub mod Whole
 pub mod Laws

@@ -30,10 +30,10 @@ use Rattle.lookup.specs.Buckets.{parentChain, sessionChain}
 use Rattle.state.specs.Stands.{Stands}
 use Rattle.state.specs.declared.State.{State}
 use Rattle.tally.specs.Tallied.{Tallied}
-use Rattle.judge.proofs.First.{number-some}
-use Rattle.audit.specs.declared.report.Report.{Report}
+use Rattle.refusal.proofs.Laws.{number-some}
+use Rattle.report.specs.declared.Report.{Report}
 use Rattle.audit.specs.declared.step.Step.{Step}
-use Rattle.audit.specs.Reported.{reported}
+use Rattle.report.specs.Reported.{reported}
 use Rattle.audit.specs.Steps.{Sized, Zeros, Reached, Stepped, Holds}
 
 -- ---- 3

@@ -18,11 +18,11 @@ use Rattle.chains.specs.Chain.{chainWords, chain}
 use Rattle.refusal.specs.declared.Refusal.{Refusal}
 use Rattle.format.specs.Base.{base}
 use Rattle.index.specs.Kept.{before}
-use Rattle.judge.proofs.First.{number-some}
-use Rattle.audit.specs.declared.report.Report.{Report}
-use Rattle.audit.specs.declared.report.Answer.{Answer}
-use Rattle.audit.specs.declared.report.Answer.the-variants.{Accepted, Refused}
-use Rattle.audit.specs.Reported.{answered, reported}
+use Rattle.refusal.proofs.Laws.{number-some}
+use Rattle.report.specs.declared.Report.{Report}
+use Rattle.report.specs.declared.Answer.{Answer}
+use Rattle.report.specs.declared.Answer.the-variants.{Accepted, Refused}
+use Rattle.report.specs.Reported.{answered, reported}
 use Rattle.audit.specs.Steps.{Sized, Zeros, Holds}
 
 -- ---- no items yet

@@ -1,3 +1,3 @@
--- The report as the paper's values, and what the steps of the audit ensure.
-pub mod Reported
+-- The outcome that the contracts name, and what the steps of the audit ensure.
+pub mod Outcome
 pub mod Steps

@@ -1,25 +1,22 @@
 // The audit of a board: a report, and the rows of the index table and of the ballot table.
 ghost use mathlib.Core.Path.{_≡_};
-ghost use lib.ListN.{length};
-ghost use Rattle.model.specs.Audit.{audit};
 ghost use Rattle.model.specs.Report.{reportOf, indexAfter, ballotsAfter};
 ghost use Rattle.format.specs.Base.{base};
-ghost use Rattle.audit.specs.Reported.{reported};
+ghost use Rattle.report.specs.Reported.{reported};
+ghost use Rattle.audit.specs.Outcome.{outcomeOf};
 use format::limit::Limit;
 use refusal::Refusal;
 use report::Report;
 
-pub mod closing;
-pub mod report;
 pub mod run;
 pub mod step;
 
 // Audits a board with its verdict words. The index table and the ballot table are lent for writing: the word limit and 2 change neither,
 // every later refusal leaves both all zero, and acceptance leaves the rows and zeros.
 pub fn audit(board: &[u32], verdicts: &[u32], index: &mut [u32], ballots: &mut [u32]) -> Report
-    ensures answer { λ r. ⌜ reported r ≡ reportOf base (audit base (now (board .entry)) (now (verdicts .entry)) (length (now (index .entry))) (length (now (ballots .entry)))) ⌝ }
-    ensures index { λ _. ⌜ now (index .exit) ≡ indexAfter (audit base (now (board .entry)) (now (verdicts .entry)) (length (now (index .entry))) (length (now (ballots .entry)))) (now (index .entry)) ⌝ }
-    ensures ballots { λ _. ⌜ now (ballots .exit) ≡ ballotsAfter (audit base (now (board .entry)) (now (verdicts .entry)) (length (now (index .entry))) (length (now (ballots .entry)))) (now (ballots .entry)) ⌝ }
+    ensures answer { λ r. ⌜ reported r ≡ reportOf base (outcomeOf board verdicts index ballots) ⌝ }
+    ensures index { λ _. ⌜ now (index .exit) ≡ indexAfter (outcomeOf board verdicts index ballots) (now (index .entry)) ⌝ }
+    ensures ballots { λ _. ⌜ now (ballots .exit) ≡ ballotsAfter (outcomeOf board verdicts index ballots) (now (ballots .entry)) ⌝ }
 {
     // 1 oversize: more words than the limit
     if Limit::WORDS < board.len() {

@@ -3,21 +3,21 @@ ghost use mathlib.Core.Path.{_≡_};
 ghost use mathlib.Core.List.{[]};
 ghost use Prim.Native.Nat.{_≤_};
 ghost use lib.ListN.{length, replicate};
-ghost use Rattle.model.specs.Audit.{audit, items, itemLimit, wordLimit, indexNeed, ballotNeed, isEmpty};
+ghost use Rattle.model.specs.Audit.{isEmpty};
 ghost use Rattle.model.specs.Report.{reportOf, indexAfter, ballotsAfter};
 ghost use Rattle.format.specs.Base.{base};
 ghost use Rattle.lookup.specs.Buckets.{parentChain, sessionChain};
-ghost use Rattle.audit.specs.Reported.{reported};
+ghost use Rattle.report.specs.Reported.{reported};
+ghost use Rattle.audit.specs.Outcome.{itemsOutcome, outcomeOf};
 ghost use Rattle.audit.specs.Steps.{Sized, Zeros, Holds};
-use crate::closing;
-use crate::report::Answer;
-use crate::report::Report;
 use crate::step;
 use chains::Chain;
 use format::head::Head;
 use format::limit::Limit;
 use refusal::Finding;
 use refusal::Refusal;
+use report::Answer;
+use report::Report;
 use state::State;
 
 // Whether the board has no words, or begins with a closing word.
@@ -42,8 +42,8 @@ fn run(
 ) -> Report
     requires { ⌜ (Sized (now board) (now index) (now ballots)) × (Zeros (now index)) × (Zeros (now ballots)) ⌝ }
     requires { ⌜ (now parents ≡ parentChain (now board) 0) × (now sessions ≡ sessionChain (now board) 0) ⌝ }
-    ensures answer { λ r. ⌜ reported r ≡ reportOf base (items base (now (board .entry)) (now (verdicts .entry)) (length (now (ballots .entry))) itemLimit [] 0) ⌝ }
-    ensures tables { λ _. ⌜ Holds (now (board .entry)) (items base (now (board .entry)) (now (verdicts .entry)) (length (now (ballots .entry))) itemLimit [] 0) (now (index .exit)) (now (ballots .exit)) ⌝ }
+    ensures answer { λ r. ⌜ reported r ≡ reportOf base (itemsOutcome board verdicts ballots) ⌝ }
+    ensures tables { λ _. ⌜ Holds (now (board .entry)) (itemsOutcome board verdicts ballots) (now (index .exit)) (now (ballots .exit)) ⌝ }
 {
     let mut s = State::new();
     loop {
@@ -72,9 +72,9 @@ fn run(
 // The audit of a board within the word limit, with tables that are long enough.
 pub fn read(board: &[u32], verdicts: &[u32], index: &mut [u32], ballots: &mut [u32]) -> Report
     requires { ⌜ Sized (now board) (now index) (now ballots) ⌝ }
-    ensures answer { λ r. ⌜ reported r ≡ reportOf base (audit base (now (board .entry)) (now (verdicts .entry)) (length (now (index .entry))) (length (now (ballots .entry)))) ⌝ }
-    ensures index { λ _. ⌜ now (index .exit) ≡ indexAfter (audit base (now (board .entry)) (now (verdicts .entry)) (length (now (index .entry))) (length (now (ballots .entry)))) (now (index .entry)) ⌝ }
-    ensures ballots { λ _. ⌜ now (ballots .exit) ≡ ballotsAfter (audit base (now (board .entry)) (now (verdicts .entry)) (length (now (index .entry))) (length (now (ballots .entry)))) (now (ballots .entry)) ⌝ }
+    ensures answer { λ r. ⌜ reported r ≡ reportOf base (outcomeOf board verdicts index ballots) ⌝ }
+    ensures index { λ _. ⌜ now (index .exit) ≡ indexAfter (outcomeOf board verdicts index ballots) (now (index .entry)) ⌝ }
+    ensures ballots { λ _. ⌜ now (ballots .exit) ≡ ballotsAfter (outcomeOf board verdicts index ballots) (now (ballots .entry)) ⌝ }
 {
     words::clear(index);
     words::clear(ballots);

@@ -26,8 +26,10 @@ fn pass(
     s: State,
     c: Known,
 ) -> State
-    requires { ⌜ (Reached (now board) (now index) (now ballots) (now parents) (now sessions) s) × (Passing (now board) (now index) (s .items) c) ⌝ }
-    ensures { λ r. ⌜ (r .items ≡ s .items + 1) × (Reached (now (board .entry)) (now (index .exit)) (now (ballots .exit)) (now (parents .exit)) (now (sessions .exit)) r) ⌝ }
+    requires { ⌜ (Reached (now board) (now index) (now ballots) (now parents) (now sessions) s)
+        × (Passing (now board) (now index) (s .items) c) ⌝ }
+    ensures { λ r. ⌜ (r .items ≡ s .items + 1)
+        × (Reached (now (board .entry)) (now (index .exit)) (now (ballots .exit)) (now (parents .exit)) (now (sessions .exit)) r) ⌝ }
 {
     let rows = tally::after(board, index, ballots, s, c);
     let next = s.after(board, index, c, rows);
@@ -48,7 +50,9 @@ pub fn advance(
 ) -> Step
     requires { ⌜ Reached (now board) (now index) (now ballots) (now parents) (now sessions) s ⌝ }
     requires { ⌜ (s .place < length (now board)) × (s .items < itemLimit) ⌝ }
-    ensures { λ r. ⌜ Stepped (now (board .entry)) (now (verdicts .entry)) (now (index .entry)) (now (ballots .entry)) (now (parents .entry)) (now (sessions .entry)) (now (index .exit)) (now (ballots .exit)) (now (parents .exit)) (now (sessions .exit)) s r ⌝ }
+    ensures { λ r. ⌜ Stepped (now (board .entry)) (now (verdicts .entry))
+        (now (index .entry)) (now (ballots .entry)) (now (parents .entry)) (now (sessions .entry))
+        (now (index .exit)) (now (ballots .exit)) (now (parents .exit)) (now (sessions .exit)) s r ⌝ }
 {
     let judged = judge::judge(board, verdicts, index, ballots, parents, sessions, s);
     match judged {

@@ -22,7 +22,7 @@ use Rattle.model.proofs.Tests.{by-test}
 use Rattle.model.proofs.Checks.{Numbers}
 use Rattle.refusal.specs.Number.{numberOf, foundOf}
 use Rattle.refusal.specs.declared.Refusal.{Refusal}
-use Rattle.refusal.specs.declared.Refusal.the-variants.{TooLarge, ShortTable, EmptyBoard, Truncated, UnknownType, WrongCount, WrongAddress, WrongPrevious, WrongParent, EarlierTime, OutOfPhase, Duplicate, BadContent, NoVerdict, WrongKey, BadSignature, TableFull, BadClosing, NoSuchItem}
+use Rattle.refusal.proofs.Laws.{number-some}
 use Rattle.refusal.specs.declared.Finding.{Finding}
 use Rattle.refusal.specs.declared.Finding.the-variants.{Passes, Fails}
 use Rattle.judge.specs.Checks.{linkChecks, ruleChecks, verdictChecks}
@@ -43,27 +43,6 @@ pub unmet : {a b : Bool} → a ≡ b → not a ≡ true → b ≡ false
 unmet {a} {b} e n = is-unmet b (ap not (sym e) ∙ n)
 
 -- ---- what the checks find, as a number
-
-pub number-some : (x : Refusal) → 1 ≤ numberOf x
-number-some TooLarge = omega arith
-number-some ShortTable = omega arith
-number-some EmptyBoard = omega arith
-number-some Truncated = omega arith
-number-some UnknownType = omega arith
-number-some WrongCount = omega arith
-number-some WrongAddress = omega arith
-number-some WrongPrevious = omega arith
-number-some WrongParent = omega arith
-number-some EarlierTime = omega arith
-number-some OutOfPhase = omega arith
-number-some Duplicate = omega arith
-number-some BadContent = omega arith
-number-some NoVerdict = omega arith
-number-some WrongKey = omega arith
-number-some BadSignature = omega arith
-number-some TableFull = omega arith
-number-some BadClosing = omega arith
-number-some NoSuchItem = omega arith
 
 pub found-some : {d : Finding} {x : Refusal} → d ≡ Fails x → 1 ≤ foundOf d
 found-some {x = x} e = rw e (number-some x)

@@ -5,9 +5,9 @@ use mathlib.Core.List.{List}
 use Rattle.model.specs.Refusal.{noFault}
 use Rattle.model.specs.Report as model
 use Rattle.refusal.specs.Number.{numberOf}
-use Rattle.audit.specs.declared.report.Report.{Report}
-use Rattle.audit.specs.declared.report.Answer.{Answer}
-use Rattle.audit.specs.declared.report.Answer.the-variants.{Accepted, Refused}
+use Rattle.report.specs.declared.Report.{Report}
+use Rattle.report.specs.declared.Answer.{Answer}
+use Rattle.report.specs.declared.Answer.the-variants.{Accepted, Refused}
 
 abbrev pub answered : Answer → List ℕ → model.Report
 answered (Accepted items mains ballots weight) end =

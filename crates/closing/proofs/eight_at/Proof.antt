@@ -5,10 +5,10 @@ use native.Mathlib.Omega.{arith}
 use lib.ListN.{length, take, length-set}
 use lib.Seq.{take-all}
 use Rattle.model.specs.Lists.{part}
-use Rattle.audit.proofs.Close.{copied-more}
+use Rattle.closing.proofs.Closing.{copied-more}
 use borrow.Author.Needs.{needs}
-use Rattle.audit.proofs.closing.eight_at.Statement.{statement}
-use Rattle.audit.proofs.closing.eight_at.Tie as tie
+use Rattle.closing.proofs.eight_at.Statement.{statement}
+use Rattle.closing.proofs.eight_at.Tie as tie
 
 abbrev Inv-loop : tie.InvT-loop
 Inv-loop board at eight₀ k₀ eight k = (k ≤ 8) × (length eight ≡ 8) × (take k eight ≡ part at k board)

@@ -1,14 +1,14 @@
 -- `close` meets its contract. Assumes nothing.
 use native.Mathlib.Omega.{arith}
+use borrow.Author.Tests.{not-true, not-false}
 use mathlib.Core.Path.{sym, ap, _∙_}
 use lib.ListN.{length}
 use Rattle.model.specs.Report.{reportOf}
 use Rattle.format.specs.Base.{base}
 use Rattle.state.proofs.Step.{mains-few}
-use Rattle.judge.proofs.First.{met, unmet}
-use Rattle.audit.proofs.Close.{close-bad, close-full, close-good, ballots-few, holds-rows, accepted-report}
-use Rattle.audit.proofs.closing.close.Statement.{statement}
-use Rattle.audit.proofs.closing.close.Tie as tie
+use Rattle.closing.proofs.Closing.{close-bad, close-full, close-good, ballots-few, holds-rows, accepted-report}
+use Rattle.closing.proofs.close.Statement.{statement}
+use Rattle.closing.proofs.close.Tie as tie
 
 is-closed-requires : tie.Need-is-closed-requires
 is-closed-requires c κs =
@@ -23,7 +23,7 @@ returns c =
     let start = c .before .before .before .before .before .before .before in
     let x = start .args in
     c .refused .ensures ∙ ap (reportOf base)
-    (sym (close-bad (x .board .now) (x .verdicts .now) (length (x .ballots .now)) (x .s) (unmet (c .before .before .is-closed .ensures) (c .before .if1 .taken))))
+    (sym (close-bad (x .board .now) (x .verdicts .now) (length (x .ballots .now)) (x .s) (sym (c .before .before .is-closed .ensures) ∙ not-true _ (c .before .if1 .taken))))
 
 mul-if2 : tie.Need-mul-if2
 mul-if2 c =
@@ -39,7 +39,7 @@ returns-2 c =
     let x = start .args in
     c .refused2 .ensures
     ∙ ap (reportOf base)
-    (sym (close-full (x .board .now) (x .verdicts .now) (length (x .ballots .now)) (x .s) (met (c .before .before .before .before .is-closed .ensures) (c .before .before .before .if1 .left)) (start .pre .0 .1) (c .before .if2 .taken)))
+    (sym (close-full (x .board .now) (x .verdicts .now) (length (x .ballots .now)) (x .s) (sym (c .before .before .before .before .is-closed .ensures) ∙ not-false _ (c .before .before .before .if1 .left)) (start .pre .0 .1) (c .before .if2 .taken)))
 
 total-weight-requires : tie.Need-total-weight-requires
 total-weight-requires c κs =
@@ -74,7 +74,7 @@ returns-3 c =
     accepted-report stands _ _ (c .before .before .before .before .total-weight .ensures _ (holds-rows stands (start .pre .0 .2)))
     (c .before .before .before .end-address .ensures)
     ∙ ap (reportOf base)
-    (sym (close-good (x .board .now) (x .verdicts .now) (length (x .ballots .now)) (x .s) (met (at-is-closed .is-closed .ensures) (one .if1 .left)) stands (c .before .before .before .before .before .if2 .left)))
+    (sym (close-good (x .board .now) (x .verdicts .now) (length (x .ballots .now)) (x .s) (sym (at-is-closed .is-closed .ensures) ∙ not-false _ (one .if1 .left)) stands (c .before .before .before .before .before .if2 .left)))
 
 pub close-spec : {M : Type 1} → statement M
 close-spec =

@@ -4,19 +4,20 @@ ghost use Prim.Native.Nat.{_+_, _<_, _≤_};
 ghost use lib.ListN.{length};
 ghost use Rattle.model.specs.Lists.{part};
 ghost use Rattle.model.specs.History.{endAddress};
-ghost use Rattle.model.specs.Audit.{closing, closingOk};
+ghost use Rattle.model.specs.Audit.{closingOk};
 ghost use Rattle.model.specs.Report.{reportOf};
 ghost use Rattle.format.specs.Base.{base};
 ghost use Rattle.index.specs.Kept.{before, Kept};
 ghost use Rattle.state.specs.Stands.{Stands};
 ghost use Rattle.tally.specs.Tallied.{Tallied};
-ghost use Rattle.audit.specs.Reported.{reported};
-use crate::report::Answer;
-use crate::report::Report;
+ghost use Rattle.report.specs.Reported.{reported};
+ghost use Rattle.closing.specs.Outcome.{closingOutcome};
 use format::item::Item;
 use format::limit::Limit;
 use keys::Verdict;
 use refusal::Refusal;
+use report::Answer;
+use report::Report;
 use state::State;
 
 // Numbers of items that a closing word can hold: bits 27..0.
@@ -67,7 +68,7 @@ fn end_address(board: &[u32], index: &[u32], s: State) -> [u32; 8]
 pub fn close(board: &[u32], verdicts: &[u32], index: &[u32], ballots: &[u32], s: State) -> Report
     requires { ⌜ (Kept (now board) (now index) (s .items)) × (Stands (now board) s) × (Tallied (now board) (now ballots) (s .items)) ⌝ }
     requires { ⌜ s .place < length (now board) ⌝ }
-    ensures { λ r. ⌜ reported r ≡ reportOf base (closing base (now (board .entry)) (now (verdicts .entry)) (length (now (ballots .entry))) (before (now (board .entry)) (s .items)) (s .place)) ⌝ }
+    ensures { λ r. ⌜ reported r ≡ reportOf base (closingOutcome (now (board .entry)) (now (verdicts .entry)) (now (ballots .entry)) s) ⌝ }
 {
     // 18 bad close
     if !is_closed(board, verdicts, index, s) {

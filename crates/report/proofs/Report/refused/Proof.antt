@@ -2,8 +2,8 @@
 use mathlib.Core.Path.{refl}
 use Rattle.model.specs.Report.{reportOf}
 use borrow.Author.Needs.{needs}
-use Rattle.audit.proofs.report.Report.refused.Statement.{statement}
-use Rattle.audit.proofs.report.Report.refused.Tie as tie
+use Rattle.report.proofs.Report.refused.Statement.{statement}
+use Rattle.report.proofs.Report.refused.Tie as tie
 
 cast-t3 : tie.Need-cast-t3
 cast-t3 c = search needs

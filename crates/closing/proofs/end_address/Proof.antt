@@ -3,9 +3,9 @@ use native.Mathlib.Omega.{arith}
 use mathlib.Core.Path.{sym, _∙_}
 use Rattle.index.proofs.Reading.{known-address}
 use Rattle.state.proofs.At.{last-in-range, end-none, end-last}
-use Rattle.audit.proofs.Close.{address-within}
-use Rattle.audit.proofs.closing.end_address.Statement.{statement}
-use Rattle.audit.proofs.closing.end_address.Tie as tie
+use Rattle.closing.proofs.Closing.{address-within}
+use Rattle.closing.proofs.end_address.Statement.{statement}
+use Rattle.closing.proofs.end_address.Tie as tie
 
 returns : tie.Need-returns
 returns c = sym (end-none (c .before .before .before .before .pre .1) (c .if1 .taken))

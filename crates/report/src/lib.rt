@@ -5,7 +5,7 @@ ghost use Rattle.model.specs.Audit.{itemLimit, refused};
 ghost use Rattle.model.specs.Report.{reportOf};
 ghost use Rattle.format.specs.Base.{base};
 ghost use Rattle.refusal.specs.Number.{numberOf};
-ghost use Rattle.audit.specs.Reported.{reported};
+ghost use Rattle.report.specs.Reported.{reported};
 use format::item::Item;
 use refusal::Refusal;
 

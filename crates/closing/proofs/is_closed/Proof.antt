@@ -1,8 +1,8 @@
 -- `is_closed` meets its contract. Assumes nothing.
 use borrow.Author.Needs.{needs}
-use Rattle.audit.proofs.Close.{closed-number, closed-more, closed-verdicts}
-use Rattle.audit.proofs.closing.is_closed.Statement.{statement}
-use Rattle.audit.proofs.closing.is_closed.Tie as tie
+use Rattle.closing.proofs.Closing.{closed-number, closed-more, closed-verdicts}
+use Rattle.closing.proofs.is_closed.Statement.{statement}
+use Rattle.closing.proofs.is_closed.Tie as tie
 
 mul-wide : tie.Need-mul-wide
 mul-wide c = search needs

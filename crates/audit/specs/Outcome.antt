@@ -1,0 +1,21 @@
+-- The outcome of the audit of what a caller passed, so that a contract names it in a word. Assumes nothing.
+use Prim.Native.Nat.{ℕ}
+use mathlib.Core.List.{List, []}
+use lib.ListN.{length}
+use denote.Ref.{RefT, now}
+use denote.Triple.Both.{Both}
+use Rattle.model.specs.Audit.{Outcome, audit, items, itemLimit}
+use Rattle.format.specs.Base.{base}
+
+-- a slice of words as a contract has it: at entry, and as X at exit
+abbrev pub Slice : Type 0 → Type 0
+Slice X = Both (RefT (List ℕ)) X
+
+-- a board with its verdicts, and the index table and the ballot table by their lengths
+abbrev pub outcomeOf : {A B C D : Type 0} → Slice A → Slice B → Slice C → Slice D → Outcome
+outcomeOf board verdicts index ballots =
+    audit base (now (board .entry)) (now (verdicts .entry)) (length (now (index .entry))) (length (now (ballots .entry)))
+
+-- what reading its items gives, from the first one on
+abbrev pub itemsOutcome : {A B C : Type 0} → Slice A → Slice B → Slice C → Outcome
+itemsOutcome board verdicts ballots = items base (now (board .entry)) (now (verdicts .entry)) (length (now (ballots .entry))) itemLimit [] 0

@@ -1,0 +1,2 @@
+-- The outcome at the closing word.
+pub mod Outcome

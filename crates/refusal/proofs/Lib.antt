@@ -1,0 +1,2 @@
+-- Facts of the refusals' numbers.
+pub mod Laws

@@ -1,0 +1,2 @@
+-- The report as the paper's values.
+pub mod Reported
