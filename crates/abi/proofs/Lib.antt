@@ -1,2 +1,2 @@
--- Laws of the answers.
+-- What the entries for other languages write.
 pub mod Laws

@@ -1,2 +1,2 @@
--- What the entries for other languages answer.
-pub mod Answer
+-- What the entries for other languages answer and write.
+pub mod Written

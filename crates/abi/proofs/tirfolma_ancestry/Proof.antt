@@ -1,20 +1,13 @@
 -- `tirfolma_ancestry` meets its contract: by the length of the answer. Assumes nothing.
-use lib.ListN.{length}
-use Rattle.model.specs.Audit.{Outcome}
-use Rattle.model.specs.Ancestry.{ancestryAudit}
-use Rattle.format.specs.Base.{base}
 use Rattle.abi.proofs.Laws.{listed-short, listed-told}
 use borrow.Author.Needs.{needs}
 use Rattle.abi.proofs.tirfolma_ancestry.Statement.{statement}
 use Rattle.abi.proofs.tirfolma_ancestry.Tie as tie
 
-abbrev outcome : tie.Start → Outcome
-outcome s = ancestryAudit base (s .args .board .now) (s .args .verdicts .now) (length (s .args .index .now)) (length (s .args .ballots .now)) (length (s .args .list .now))
-
 returns : tie.Need-returns
 returns c =
     let s = c .before .before .before .before .before .before .before in
-    listed-short (outcome s) (s .args .number) (s .args .index .now) (s .args .ballots .now) (s .args .list .now) (s .args .answer .now) (c .if1 .taken)
+    listed-short _ (s .args .number) (s .args .index .now) (s .args .ballots .now) (s .args .list .now) (s .args .answer .now) (c .if1 .taken)
 
 ancestry-requires : tie.Need-ancestry-requires
 ancestry-requires c κs = search needs
@@ -38,7 +31,7 @@ returns-2 : tie.Need-returns-2
 returns-2 c =
     let s = c .before .before .before .before .before .before .before .before .before .before .before .before .before .before .before .before .before .before .before .before .before in
     let a = c .before .before .before .before .before .before .before .before .before .before .ancestry in
-    listed-told (outcome s) (s .args .number) (s .args .index .now) (s .args .ballots .now) (s .args .list .now) (s .args .answer .now) (c .before .before .before .before .before .before .before .before .before .before .before .before .before .before .if1 .left) (a .result) (a .ensures .0) (a .ensures .1 .0) (a .ensures .1 .1 .0) (a .ensures .1 .1 .1) (c .before .before .put-listing .ensures)
+    listed-told _ (s .args .number) (s .args .index .now) (s .args .ballots .now) (s .args .list .now) (s .args .answer .now) (c .before .before .before .before .before .before .before .before .before .before .before .before .before .before .if1 .left) (a .result) (a .ensures .0) (a .ensures .1 .0) (a .ensures .1 .1 .0) (a .ensures .1 .1 .1) (c .before .before .put-listing .ensures)
 
 pub tirfolma-ancestry-spec : {M : Type 1} → statement M
 tirfolma-ancestry-spec =

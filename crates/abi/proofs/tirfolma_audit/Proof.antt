@@ -5,7 +5,9 @@ use Rattle.abi.proofs.tirfolma_audit.Statement.{statement}
 use Rattle.abi.proofs.tirfolma_audit.Tie as tie
 
 returns : tie.Need-returns
-returns c = audited-short (c .before .before .before .before .before .before .args .board .now) (c .before .before .before .before .before .before .args .verdicts .now) (c .before .before .before .before .before .before .args .index .now) (c .before .before .before .before .before .before .args .ballots .now) (c .before .before .before .before .before .before .args .answer .now) (c .if1 .taken)
+returns c =
+    let s = c .before .before .before .before .before .before in
+    audited-short _ (s .args .index .now) (s .args .ballots .now) (s .args .answer .now) (c .if1 .taken)
 
 audit-requires : tie.Need-audit-requires
 audit-requires c κs = search needs
@@ -26,7 +28,7 @@ returns-2 : tie.Need-returns-2
 returns-2 c =
     let s = c .before .before .before .before .before .before .before .before .before .before .before .before .before .before .before .before .before in
     let a = c .before .before .before .before .before .before .before .before .audit in
-    audited-told (s .args .board .now) (s .args .verdicts .now) (s .args .index .now) (s .args .ballots .now) (s .args .answer .now) (c .before .before .before .before .before .before .before .before .before .before .before .if1 .left) (a .result) (a .ensures .0) (a .ensures .1 .0) (a .ensures .1 .1) (c .before .before .put-report .ensures)
+    audited-told _ (s .args .index .now) (s .args .ballots .now) (s .args .answer .now) (c .before .before .before .before .before .before .before .before .before .before .before .if1 .left) (a .result) (a .ensures .0) (a .ensures .1 .0) (a .ensures .1 .1) (c .before .before .put-report .ensures)
 
 pub tirfolma-audit-spec : {M : Type 1} → statement M
 tirfolma-audit-spec =

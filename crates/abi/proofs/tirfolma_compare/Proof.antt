@@ -1,23 +1,13 @@
 -- `tirfolma_compare` meets its contract: by the length of the answer. Assumes nothing.
-use lib.ListN.{length}
-use Rattle.model.specs.Audit.{Outcome, audit}
-use Rattle.format.specs.Base.{base}
 use Rattle.abi.proofs.Laws.{compared-short, compared-told}
 use borrow.Author.Needs.{needs}
 use Rattle.abi.proofs.tirfolma_compare.Statement.{statement}
 use Rattle.abi.proofs.tirfolma_compare.Tie as tie
 
--- the outcomes of both audits
-abbrev kept-outcome : tie.Start → Outcome
-kept-outcome s = audit base (s .args .kept .now) (s .args .kept-verdicts .now) (length (s .args .kept-index .now)) (length (s .args .kept-ballots .now))
-
-abbrev later-outcome : tie.Start → Outcome
-later-outcome s = audit base (s .args .later .now) (s .args .later-verdicts .now) (length (s .args .later-index .now)) (length (s .args .later-ballots .now))
-
 returns : tie.Need-returns
 returns c =
     let s = c .before .before .before .before .before .before .before .before .before .before in
-    compared-short (kept-outcome s) (later-outcome s) (s .args .number) (s .args .kept-index .now) (s .args .kept-ballots .now) (s .args .later-index .now) (s .args .later-ballots .now) (s .args .answer .now) (c .if1 .taken)
+    compared-short _ _ (s .args .number) (s .args .kept-index .now) (s .args .kept-ballots .now) (s .args .later-index .now) (s .args .later-ballots .now) (s .args .answer .now) (c .if1 .taken)
 
 compare-requires : tie.Need-compare-requires
 compare-requires c κs = search needs
@@ -44,7 +34,7 @@ returns-2 : tie.Need-returns-2
 returns-2 c =
     let s = c .before .before .before .before .before .before .before .before .before .before .before .before .before .before .before .before .before .before .before .before .before .before .before .before .before .before .before in
     let a = c .before .before .before .before .before .before .before .before .before .before .before .before .compare in
-    compared-told (kept-outcome s) (later-outcome s) (s .args .number) (s .args .kept-index .now) (s .args .kept-ballots .now) (s .args .later-index .now) (s .args .later-ballots .now) (s .args .answer .now) (c .before .before .before .before .before .before .before .before .before .before .before .before .before .before .before .before .before .if1 .left) (a .result) (a .ensures .0) (a .ensures .1 .0) (a .ensures .1 .1 .0) (a .ensures .1 .1 .1 .0) (a .ensures .1 .1 .1 .1) (c .before .before .put-comparison .ensures)
+    compared-told _ _ (s .args .number) (s .args .kept-index .now) (s .args .kept-ballots .now) (s .args .later-index .now) (s .args .later-ballots .now) (s .args .answer .now) (c .before .before .before .before .before .before .before .before .before .before .before .before .before .before .before .before .before .if1 .left) (a .result) (a .ensures .0) (a .ensures .1 .0) (a .ensures .1 .1 .0) (a .ensures .1 .1 .1 .0) (a .ensures .1 .1 .1 .1) (c .before .before .put-comparison .ensures)
 
 pub tirfolma-compare-spec : {M : Type 1} → statement M
 tirfolma-compare-spec =

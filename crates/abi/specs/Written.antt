@@ -1,0 +1,80 @@
+-- What the entries for other languages answer, and what they leave in the words lent to them. Assumes nothing.
+use mathlib.Core.Path.{_≡_}
+use mathlib.Core.Bool.{Bool, cond}
+use mathlib.Core.List.{List}
+use Prim.Native.Nat.{ℕ}
+use lib.Dec.{leb}
+use lib.ListN.{length}
+use denote.Ref.{RefT, now}
+use Rattle.model.specs.Audit.{Outcome}
+use Rattle.model.specs.Report.{reportOf, indexAfter, ballotsAfter}
+use Rattle.model.specs.Comparing.{comparingAnswer, laterIndexAfter, laterBallotsAfter}
+use Rattle.model.specs.Ancestry.{ancestryAnswer, listAfter}
+use Rattle.format.specs.Base.{base}
+use Rattle.audit.specs.Outcome.{Slice, outcomeOf}
+use Rattle.entries.specs.Listing.{listingOutcome}
+use Rattle.answers.specs.Words.{overwritten, auditSize, answerWords, compareSize, comparisonWords, ancestrySize, listingWords}
+
+-- a slice that an entry writes: its words at entry and at exit
+abbrev pub Buffer : Type 0
+Buffer = Slice (RefT (List ℕ))
+
+-- whether a buffer has room for an answer of so many words
+abbrev pub hasRoom : ℕ → List ℕ → Bool
+hasRoom size buffer = leb size (length buffer)
+
+-- ---- audit
+
+-- Of the audit's outcome. With room for the answer: true, the words of the report over the first of the buffer, and the tables of the outcome.
+-- Without: false, and every word as it was.
+pub record AuditWritten (outcome : Outcome) (index ballots answer : List ℕ) (told : Bool) (index′ ballots′ answer′ : List ℕ) : Type 0 where
+  pub is : told ≡ hasRoom auditSize answer
+  pub report : answer′ ≡ cond (hasRoom auditSize answer) (overwritten (answerWords (reportOf base outcome)) answer) answer
+  pub indexRows : index′ ≡ cond (hasRoom auditSize answer) (indexAfter outcome index) index
+  pub ballotRows : ballots′ ≡ cond (hasRoom auditSize answer) (ballotsAfter outcome ballots) ballots
+
+-- of what the caller passed
+abbrev pub Audited : {A B : Type 0} → Slice A → Slice B → Buffer → Buffer → Buffer → Bool → Type 0
+Audited board verdicts index ballots answer told =
+    AuditWritten (outcomeOf board verdicts index ballots)
+    (now (index .entry)) (now (ballots .entry)) (now (answer .entry)) told
+    (now (index .exit)) (now (ballots .exit)) (now (answer .exit))
+
+-- ---- compare
+
+-- Of the outcomes of both audits, at a main number. With room for the answer: true, its words, and all four tables as comparing leaves them.
+-- Without: false, and every word as it was.
+pub record ComparisonWritten (kept later : Outcome) (number : ℕ) (keptIndex keptBallots laterIndex laterBallots answer : List ℕ)
+    (told : Bool) (keptIndex′ keptBallots′ laterIndex′ laterBallots′ answer′ : List ℕ) : Type 0 where
+  pub is : told ≡ hasRoom compareSize answer
+  pub comparison : answer′ ≡ cond (hasRoom compareSize answer) (overwritten (comparisonWords (comparingAnswer kept later number)) answer) answer
+  pub keptIndexRows : keptIndex′ ≡ cond (hasRoom compareSize answer) (indexAfter kept keptIndex) keptIndex
+  pub keptBallotRows : keptBallots′ ≡ cond (hasRoom compareSize answer) (ballotsAfter kept keptBallots) keptBallots
+  pub laterIndexRows : laterIndex′ ≡ cond (hasRoom compareSize answer) (laterIndexAfter kept later laterIndex) laterIndex
+  pub laterBallotRows : laterBallots′ ≡ cond (hasRoom compareSize answer) (laterBallotsAfter kept later laterBallots) laterBallots
+
+-- of what the caller passed: the kept board's, then the later one's
+abbrev pub Compared : {A B C D : Type 0} → Slice A → Slice B → Buffer → Buffer → Slice C → Slice D → Buffer → Buffer → ℕ → Buffer → Bool → Type 0
+Compared kept keptVerdicts keptIndex keptBallots later laterVerdicts laterIndex laterBallots number answer told =
+    ComparisonWritten (outcomeOf kept keptVerdicts keptIndex keptBallots) (outcomeOf later laterVerdicts laterIndex laterBallots) number
+    (now (keptIndex .entry)) (now (keptBallots .entry)) (now (laterIndex .entry)) (now (laterBallots .entry)) (now (answer .entry)) told
+    (now (keptIndex .exit)) (now (keptBallots .exit)) (now (laterIndex .exit)) (now (laterBallots .exit)) (now (answer .exit))
+
+-- ---- ancestry
+
+-- Of the audit's outcome, at an item number. With room for the answer: true, its words, and the tables and the list as listing leaves them.
+-- Without: false, and every word as it was.
+pub record ListingWritten (outcome : Outcome) (number : ℕ) (index ballots list answer : List ℕ)
+    (told : Bool) (index′ ballots′ list′ answer′ : List ℕ) : Type 0 where
+  pub is : told ≡ hasRoom ancestrySize answer
+  pub listing : answer′ ≡ cond (hasRoom ancestrySize answer) (overwritten (listingWords (ancestryAnswer outcome number)) answer) answer
+  pub indexRows : index′ ≡ cond (hasRoom ancestrySize answer) (indexAfter outcome index) index
+  pub ballotRows : ballots′ ≡ cond (hasRoom ancestrySize answer) (ballotsAfter outcome ballots) ballots
+  pub numbers : list′ ≡ cond (hasRoom ancestrySize answer) (listAfter outcome number list) list
+
+-- of what the caller passed
+abbrev pub Listed : {A B : Type 0} → Slice A → Slice B → ℕ → Buffer → Buffer → Buffer → Buffer → Bool → Type 0
+Listed board verdicts number index ballots list answer told =
+    ListingWritten (listingOutcome board verdicts index ballots list) number
+    (now (index .entry)) (now (ballots .entry)) (now (list .entry)) (now (answer .entry)) told
+    (now (index .exit)) (now (ballots .exit)) (now (list .exit)) (now (answer .exit))

@@ -1,0 +1,148 @@
+// The answers of the entries as words, for callers in other languages.
+ghost use mathlib.Core.Path.{_≡_};
+ghost use Prim.Native.Nat.{_+_, _/_, _%_, _^_, _≤_};
+ghost use lib.ListN.{length};
+ghost use lib.Seq.{sets};
+ghost use Rattle.report.specs.Reported.{reported};
+ghost use Rattle.compare.specs.Answer as comparing;
+ghost use Rattle.ancestry.specs.Answer as listed;
+ghost use Rattle.answers.specs.Words.{overwritten, auditSize, headOf, answerWords};
+ghost use Rattle.answers.specs.Words.{compareSize, boardWord, comparisonWords, ancestrySize, listingWords};
+use ancestry::Listing;
+use compare::Board;
+use compare::Comparison;
+use format::item::Item;
+use report::Answer;
+use report::Report;
+
+// Words of an answer.
+pub struct Size {}
+
+impl Size {
+    // Before the end address of a report.
+    const HEAD: usize = 6;
+
+    pub const AUDIT: usize = Size::HEAD + Item::ADDRESS;
+
+    pub const COMPARE: usize = 6;
+
+    pub const ANCESTRY: usize = 2;
+}
+
+// The high word of a number of two words.
+fn high(x: u64) -> u32
+    ensures { λ r. ⌜ r ≡ x / 2 ^ 32 ⌝ }
+{
+    (x / 0x1_0000_0000) as u32
+}
+
+// The low one.
+fn low(x: u64) -> u32
+    ensures { λ r. ⌜ r ≡ x % 2 ^ 32 ⌝ }
+{
+    (x % 0x1_0000_0000) as u32
+}
+
+// Number, items, main items, ballots, and the weight, high word first.
+fn head_words(answer: Answer) -> [u32; 6]
+    ensures { λ r. ⌜ r ≡ headOf answer ⌝ }
+{
+    match answer {
+        Answer::Accepted {
+            items,
+            mains,
+            ballots,
+            weight,
+        } => {
+            let h = high(weight);
+            let l = low(weight);
+            [0, items, mains, ballots, h, l]
+        }
+        Answer::Refused { refusal, items } => [refusal::number_of(refusal), items, 0, 0, 0, 0],
+    }
+}
+
+// Writes the words into a buffer, from a place on.
+fn put(words: &[u32], buffer: &mut [u32], at: usize)
+    requires { ⌜ at + length (now words) ≤ length (now buffer) ⌝ }
+    ensures { λ _. ⌜ now (buffer .exit) ≡ sets (now (buffer .entry)) at (now (words .entry)) ⌝ }
+{
+    let mut i = 0;
+    while i < words.len() {
+        buffer[at + i] = words[i];
+        i += 1;
+    }
+}
+
+// Writes the words of a report over the first of a buffer: those, and behind them the end address.
+pub fn put_report(report: Report, buffer: &mut [u32])
+    requires { ⌜ auditSize ≤ length (now buffer) ⌝ }
+    ensures { λ _. ⌜ now (buffer .exit) ≡ overwritten (answerWords (reported report)) (now (buffer .entry)) ⌝ }
+{
+    let answer = report.answer;
+    let head = head_words(answer);
+    let end = report.end;
+    put(&head, buffer, 0);
+    put(&end, buffer, Size::HEAD);
+}
+
+// The word of a board: 0 for the kept one, 1 for the later.
+fn board_word(board: Board) -> u32
+    ensures { λ r. ⌜ r ≡ boardWord (comparing.boardOf board) ⌝ }
+{
+    match board {
+        Board::Kept => 0,
+        Board::Later => 1,
+    }
+}
+
+// Kind, board, number, items, main number in the kept board, main number in the later one.
+fn comparison_words(comparison: Comparison) -> [u32; 6]
+    ensures { λ r. ⌜ r ≡ comparisonWords (comparing.answerOf comparison) ⌝ }
+{
+    match comparison {
+        Comparison::Refused {
+            board,
+            refusal,
+            items,
+        } => [
+            0,
+            board_word(board),
+            refusal::number_of(refusal),
+            items,
+            0,
+            0,
+        ],
+        Comparison::Apart => [1, 0, 0, 0, 0, 0],
+        Comparison::Same => [2, 0, 0, 0, 0, 0],
+        Comparison::Collision { kept, later } => [3, 0, 0, 0, kept, later],
+    }
+}
+
+// Writes the words of a comparison over the first of a buffer.
+pub fn put_comparison(comparison: Comparison, buffer: &mut [u32])
+    requires { ⌜ compareSize ≤ length (now buffer) ⌝ }
+    ensures { λ _. ⌜ now (buffer .exit) ≡ overwritten (comparisonWords (comparing.answerOf comparison)) (now (buffer .entry)) ⌝ }
+{
+    let words = comparison_words(comparison);
+    put(&words, buffer, 0);
+}
+
+// Number and items; of acceptance, 0 and how many numbers were written.
+fn listing_words(listing: Listing) -> [u32; 2]
+    ensures { λ r. ⌜ r ≡ listingWords (listed.answerOf listing) ⌝ }
+{
+    match listing {
+        Listing::Listed(written) => [0, written],
+        Listing::Refused { refusal, items } => [refusal::number_of(refusal), items],
+    }
+}
+
+// Writes the words of a listing over the first of a buffer.
+pub fn put_listing(listing: Listing, buffer: &mut [u32])
+    requires { ⌜ ancestrySize ≤ length (now buffer) ⌝ }
+    ensures { λ _. ⌜ now (buffer .exit) ≡ overwritten (listingWords (listed.answerOf listing)) (now (buffer .entry)) ⌝ }
+{
+    let words = listing_words(listing);
+    put(&words, buffer, 0);
+}

@@ -1,0 +1,2 @@
+-- What the entries name in their contracts.
+pub mod Listing

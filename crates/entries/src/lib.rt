@@ -1,0 +1,3 @@
+// The entries above the audit: each audits first, and then asks the accepted board what it is for.
+pub mod comparing;
+pub mod listing;
