@@ -4,9 +4,9 @@
 ghost use mathlib.Core.Path.{_≡_};
 ghost use Prim.Native.Nat.{_+_, _%_, _≤_};
 ghost use Rattle.io.specs.Counts.{Counts};
-use audit::report::Answer;
 use format::limit::Limit;
 use libc::STDOUT_FILENO;
+use report::Answer;
 
 // The boards, numbered from 0.
 const BOARDS: usize = 111;

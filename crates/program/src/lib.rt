@@ -8,13 +8,13 @@ ghost use Rattle.model.specs.Audit as model;
 ghost use Rattle.model.specs.Program.{fromBytes, programOutcome, textOf, printed};
 ghost use Rattle.format.specs.Base.{base};
 ghost use Rattle.text.specs.Answer.{reportText};
-ghost use Rattle.audit.specs.Reported.{reported};
+ghost use Rattle.report.specs.Reported.{reported};
 ghost use Rattle.text.specs.Put.{Shown};
 ghost use Rattle.program.specs.Read.{Read};
-use audit::report::Answer;
-use audit::report::Report;
 use format::limit::Limit;
 use refusal::Finding;
+use report::Answer;
+use report::Report;
 use text::line::LINE;
 use text::size::Sizes;
 
