@@ -1,5 +1,5 @@
-// Audits the boards of data/ and writes what is answered of each, as the auditing program prints it. data/index.txt says what each board is:
-// one for each refusal and reason, and sound ones. Refusals 1 and 2 come from boards and tables of their own; 17 comes from none, since
+// Audits the boards of data/ and writes what is answered of each, as the auditing program prints it. data/index.txt says what each board
+// is: one for each refusal and reason, and sound ones. Refusals 1 and 2 come from boards and tables of their own; 17 comes from none, since
 // no more ballots are counted than there are items, and the ballot table has room for that many rows.
 ghost use mathlib.Core.Path.{_≡_};
 ghost use Prim.Native.Nat.{_+_, _%_, _≤_};

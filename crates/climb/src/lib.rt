@@ -1,5 +1,5 @@
-// The ancestry of an item: its number, its parent's, its parent's parent's, up to genesis. The board is read through the index table that its
-// audit left.
+// The ancestry of an item: its number, its parent's, its parent's parent's, up to genesis. The board is read through the index table that
+// its audit left.
 ghost use mathlib.Core.Path.{_≡_};
 ghost use Prim.Native.Nat.{_+_, _≤_};
 ghost use lib.ListN.{length};

@@ -1,9 +1,9 @@
 // Check 13 for the config: contest, threshold, authorizer, round. Paper: "Content", "Item types" (ranges).
 ghost use mathlib.Core.Path.{_≡_};
-ghost use mathlib.Core.Bool.{_&&_};
 ghost use Rattle.model.specs.Content.{contestsOk, contestOk, thresholdOk, authorizerOk, roundOk};
 ghost use Rattle.index.specs.Kept.{before, itemAfter, Kept};
 ghost use Rattle.state.specs.Stands.{Stands, AtItem};
+ghost use Rattle.config.specs.Rules.{configOk};
 use fields::Content;
 use fields::pair;
 use fields::range::Range;
@@ -15,7 +15,7 @@ use state::State;
 // The config's part of check 13.
 pub fn config_ok(board: &[u32], index: &[u32], s: State, c: Known) -> bool
     requires { ⌜ AtItem (now board) (now index) s c ⌝ }
-    ensures { λ r. ⌜ r ≡ (contestOk (itemAfter (now (board .entry)) (s .items)) && thresholdOk (itemAfter (now (board .entry)) (s .items)) && authorizerOk (itemAfter (now (board .entry)) (s .items)) && roundOk (before (now (board .entry)) (s .items)) (itemAfter (now (board .entry)) (s .items))) ⌝ }
+    ensures { λ r. ⌜ r ≡ configOk (before (now (board .entry)) (s .items)) (itemAfter (now (board .entry)) (s .items)) ⌝ }
 {
     if !contest_ok(board, index, s, c) {
         return false;

@@ -3,19 +3,22 @@ use mathlib.Core.Path.{_≡_}
 use mathlib.Core.Bool.{Bool, _&&_}
 use Rattle.model.specs.Item.{Item}
 use Rattle.model.specs.History.{History}
-use Rattle.model.specs.Content.{contestOk, thresholdOk, authorizerOk, roundOk, sessionOk, commitmentOk, ballotOk, fingerprintOk, trusteesOk, contentOk}
+use Rattle.model.specs.Content.{contentOk}
 use Rattle.model.proofs.Tests.{by-test}
 use Rattle.format.specs.Base.{base}
+use Rattle.config.specs.Rules.{configOk}
+use Rattle.voting.specs.Rules.{votingOk}
+use Rattle.extraction.specs.Rules.{extractionOk}
 
 module _ (h : History) (i : Item) where
   abbrev config : Bool
-  config = contestOk i && thresholdOk i && authorizerOk i && roundOk h i
+  config = configOk h i
 
   abbrev voting : Bool
-  voting = sessionOk h i && commitmentOk base i && ballotOk base h i
+  voting = votingOk base h i
 
   abbrev extraction : Bool
-  extraction = fingerprintOk base h i && trusteesOk h i
+  extraction = extractionOk base h i
 
   pub content-is : (x y z : Bool) → x ≡ config → y ≡ voting → z ≡ extraction → (x && y && z) ≡ contentOk base h i
   unfolding contentOk

@@ -1,6 +1,5 @@
 // Check 13 for extraction: data and confirmation. Paper: "Content", "Counted ballots" (fingerprint).
 ghost use mathlib.Core.Path.{_≡_};
-ghost use mathlib.Core.Bool.{_&&_};
 ghost use lib.Dec.{ltb};
 ghost use Rattle.model.specs.Words.{allIn};
 ghost use Rattle.model.specs.Content.{fingerprintOk, trusteesOk};
@@ -8,6 +7,7 @@ ghost use Rattle.format.specs.Base.{base};
 ghost use Rattle.index.specs.Kept.{before, itemAfter};
 ghost use Rattle.state.specs.Stands.{AtItem};
 ghost use Rattle.tally.specs.Tallied.{Tallied};
+ghost use Rattle.extraction.specs.Rules.{extractionOk};
 use fields::Content;
 use fields::earlier_word;
 use fields::range::Range;
@@ -20,7 +20,7 @@ use state::State;
 // The extraction's part of check 13.
 pub fn extraction_ok(board: &[u32], index: &[u32], ballots: &[u32], s: State, c: Known) -> bool
     requires { ⌜ (AtItem (now board) (now index) s c) × (Tallied (now board) (now ballots) (s .items)) ⌝ }
-    ensures { λ r. ⌜ r ≡ (fingerprintOk base (before (now (board .entry)) (s .items)) (itemAfter (now (board .entry)) (s .items)) && trusteesOk (before (now (board .entry)) (s .items)) (itemAfter (now (board .entry)) (s .items))) ⌝ }
+    ensures { λ r. ⌜ r ≡ extractionOk base (before (now (board .entry)) (s .items)) (itemAfter (now (board .entry)) (s .items)) ⌝ }
 {
     if !fingerprint_ok(board, index, ballots, s, c) {
         return false;

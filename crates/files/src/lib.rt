@@ -1,4 +1,5 @@
-// Files read whole: the first bytes are kept, and all are counted. No contract can say what a call of the system read; the counts are bounded.
+// Files read whole: the first bytes are kept, and all are counted. No contract can say what a call of the system read; the counts are
+// bounded.
 ghost use Prim.Native.Nat.{_≤_, _^_};
 ghost use lib.ListN.{length};
 

@@ -22,10 +22,9 @@ use Rattle.format.specs.Base.{base}
 use Rattle.format.specs.Layout.{itemOf}
 use Rattle.format.specs.declared.item.Item.{Item}
 use Rattle.index.specs.Kept.{before, itemAfter}
-use Rattle.index.specs.Known.{knownOf}
 use Rattle.index.specs.declared.Known.{Known}
 use Rattle.state.specs.declared.State.{State}
-use Rattle.state.specs.Stands.{Stands, AtItem}
+use Rattle.state.specs.Stands.{Stands, knownNext, AtItem}
 use Rattle.state.proofs.Next.{next-item}
 use Rattle.state.proofs.At.{at-next}
 
@@ -54,7 +53,7 @@ module _ {board index : List ℕ} {s : State} {c : Known} (a : AtItem board inde
 pub candidate-known : (board : List ℕ) {s : State} {item : Item} {parent session : ℕ} → Stands board s → item ≡ itemOf board (s .place)
     → parent ≡ parentNumber (before board (s .items)) (itemAt base board (item .place))
     → session ≡ sessionNumber (before board (s .items)) (itemAt base board (item .place))
-    → record { item = item; parent = parent; session = session } ≡ knownOf board (entryOf (before board (s .items)) (s .place) (itemAfter board (s .items)))
+    → record { item = item; parent = parent; session = session } ≡ knownNext board s
 unfolding entryOf
 candidate-known board {s} {item} {parent} {session} stands is ep es =
     let read : itemAt base board (item .place) ≡ itemAfter board (s .items) = ap (itemAt base board) (item-place board (s .place) is ∙ stands .place) in

@@ -22,12 +22,13 @@ use Rattle.format.specs.declared.head.Head.{Head}
 use Rattle.format.specs.declared.item.Item.{Item}
 use Rattle.format.specs.declared.table.Row.{Row}
 use Rattle.format.specs.declared.table.Listing.{Listing}
-use Rattle.index.specs.Kept.{before, itemAfter, Kept}
-use Rattle.index.specs.Known.{knownOf, Passing}
+use Rattle.index.specs.Kept.{before, Kept}
+use Rattle.index.specs.Known.{Passing}
 use Rattle.index.specs.declared.Known.{Known}
 use Rattle.state.specs.declared.State.{State}
-use Rattle.state.specs.Stands.{Stands, AtItem, IsRow}
-use Rattle.judge.specs.Checks.{rowWith, verdictAt, checksOf}
+use Rattle.state.specs.Stands.{Stands, knownNext, AtItem, IsRow}
+use Rattle.keys.specs.Verdicts.{verdictAt}
+use Rattle.judge.specs.Checks.{rowWith, checksOf}
 use Rattle.judge.specs.Judged.{faultAfter}
 use Rattle.judge.proofs.First.{met, unmet}
 use Rattle.judge.proofs.Item.{item-end, fault-meets}
@@ -79,7 +80,7 @@ module _ (board verdicts : List ℕ) (s : State) where
 module _ {board index : List ℕ} {s : State} (kept : Kept board index (s .items)) (stands : Stands board s) (more : s .items < itemLimit)
     (row : Row) (is : IsRow board s row) (counted : types.fits (countsOf (row .counts)) (countOf (getD board (s .place) 0)) ≡ true)
     {item : Item} (is-item : item ≡ itemOf board (s .place)) (within : item .end ≤ length board) where
-  pub judged-at : (c : Known) → c ≡ knownOf board (entryOf (before board (s .items)) (s .place) (itemAfter board (s .items))) → AtItem board index s c
+  pub judged-at : (c : Known) → c ≡ knownNext board s → AtItem board index s c
   unfolding entryOf
   judged-at c known = record {
     kept = kept;
@@ -99,7 +100,7 @@ module _ {board index : List ℕ} {s : State} (kept : Kept board index (s .items
   judged-fault verdicts n e = fault-checks board verdicts s row is counted stands fit ∙ sym e
 
   -- an item without a refusal passes
-  pub judged-passing : (verdicts : List ℕ) (c : Known) → c ≡ knownOf board (entryOf (before board (s .items)) (s .place) (itemAfter board (s .items)))
+  pub judged-passing : (verdicts : List ℕ) (c : Known) → c ≡ knownNext board s
       → faultAfter board verdicts s ≡ noFault → Passing board index (s .items) c
   unfolding placeOf
   judged-passing verdicts c known clean =

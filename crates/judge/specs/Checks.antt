@@ -1,10 +1,8 @@
 -- The model's checks of the item at hand, in the parts in which the code makes them. Paper: "Refusals and their order". Assumes nothing.
-use Prim.Native.Nat.{ℕ, _*_}
+use Prim.Native.Nat.{ℕ}
 use mathlib.Core.List.{List}
 use lib.ListN.{getD, take, drop}
-use Rattle.model.specs.Lists.{part}
 use Rattle.model.specs.Words.{kindOf, codeOf}
-use Rattle.model.specs.Format.{verdictSize}
 use Rattle.model.specs.Types as types
 use Rattle.model.specs.Audit.{Check, checks}
 use Rattle.format.specs.Base.{base}
@@ -22,10 +20,6 @@ rowWith board s row = record {
   parent = parentRuleOf (row .parent);
   counts = countsOf (row .counts);
 }
-
--- the verdict words of the item after the first n
-abbrev pub verdictAt : List ℕ → ℕ → List ℕ
-verdictAt verdicts n = part (verdictSize * n) verdictSize verdicts
 
 -- 7 to 16, of the item after those that passed, with its verdict words v
 abbrev pub checksOf : List ℕ → List ℕ → State → Row → List Check

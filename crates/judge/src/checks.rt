@@ -7,7 +7,8 @@ ghost use Rattle.refusal.specs.Number.{foundOf};
 ghost use Rattle.lookup.specs.Buckets.{sessionChain};
 ghost use Rattle.state.specs.Stands.{AtItem, IsRow};
 ghost use Rattle.tally.specs.Tallied.{Tallied};
-ghost use Rattle.judge.specs.Checks.{verdictAt, checksOf, linkChecks, ruleChecks, verdictChecks};
+ghost use Rattle.keys.specs.Verdicts.{verdictAt};
+ghost use Rattle.judge.specs.Checks.{checksOf, linkChecks, ruleChecks, verdictChecks};
 use format::table::Row;
 use index::Known;
 use refusal::Finding;
@@ -48,7 +49,9 @@ fn rules_finding(
     c: Known,
     row: Row,
 ) -> Finding
-    requires { ⌜ (AtItem (now board) (now index) s c) × (Tallied (now board) (now ballots) (s .items)) × (now sessions ≡ sessionChain (now board) (s .items)) ⌝ }
+    requires { ⌜ (AtItem (now board) (now index) s c)
+        × (Tallied (now board) (now ballots) (s .items))
+        × (now sessions ≡ sessionChain (now board) (s .items)) ⌝ }
     ensures { λ r. ⌜ ((v : List ℕ) → foundOf r ≡ firstUnmet (ruleChecks (checksOf (now (board .entry)) v s row))) ⌝ }
 {
     // 11 out of phase
@@ -76,7 +79,8 @@ fn verdict_finding(
     row: Row,
 ) -> Finding
     requires { ⌜ (AtItem (now board) (now index) s c) × (IsRow (now board) s row) ⌝ }
-    ensures { λ r. ⌜ foundOf r ≡ firstUnmet (verdictChecks (checksOf (now (board .entry)) (verdictAt (now (verdicts .entry)) (s .items)) s row)) ⌝ }
+    ensures { λ r. ⌜ foundOf r
+        ≡ firstUnmet (verdictChecks (checksOf (now (board .entry)) (verdictAt (now (verdicts .entry)) (s .items)) s row)) ⌝ }
 {
     // 14 no verdict
     if !keys::verdict_ok(verdicts, s.items) {

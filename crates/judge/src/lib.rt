@@ -3,12 +3,10 @@ ghost use mathlib.Core.Path.{_≡_};
 ghost use Prim.Native.Nat.{_≤_, _<_};
 ghost use lib.ListN.{length};
 ghost use Rattle.model.specs.Audit.{itemLimit};
-ghost use Rattle.model.specs.History.{entryOf};
 ghost use Rattle.format.specs.Layout.{itemOf};
-ghost use Rattle.index.specs.Kept.{before, itemAfter, Kept};
-ghost use Rattle.index.specs.Known.{knownOf};
+ghost use Rattle.index.specs.Kept.{Kept};
 ghost use Rattle.lookup.specs.Buckets.{parentChain, sessionChain};
-ghost use Rattle.state.specs.Stands.{Stands};
+ghost use Rattle.state.specs.Stands.{Stands, knownNext};
 ghost use Rattle.tally.specs.Tallied.{Tallied};
 ghost use Rattle.judge.specs.Judged.{IsJudged};
 use format::head::Head;
@@ -32,7 +30,7 @@ pub enum Judged {
 fn candidate(board: &[u32], index: &[u32], parents: &[u32], s: State, item: Item) -> Known
     requires { ⌜ (Kept (now board) (now index) (s .items)) × (Stands (now board) s) × (now parents ≡ parentChain (now board) (s .items)) ⌝ }
     requires { ⌜ (item ≡ itemOf (now board) (s .place)) × (item .end ≤ length (now board)) ⌝ }
-    ensures { λ r. ⌜ r ≡ knownOf (now (board .entry)) (entryOf (before (now (board .entry)) (s .items)) (s .place) (itemAfter (now (board .entry)) (s .items))) ⌝ }
+    ensures { λ r. ⌜ r ≡ knownNext (now (board .entry)) s ⌝ }
 {
     let parent = lookup::parent_number(board, index, parents, s.items, item);
     let session = lookup::session_number(board, index, s.items, item, parent);

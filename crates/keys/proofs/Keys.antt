@@ -34,6 +34,7 @@ use Rattle.state.specs.declared.State.{State}
 use Rattle.state.specs.Stands.{AtItem}
 use Rattle.state.proofs.At.{at-session, at-places, at-content-words}
 use Rattle.words.proofs.Runs.{getD-part}
+use Rattle.keys.specs.Verdicts.{verdictAt}
 
 -- ---- parts of parts
 
@@ -64,7 +65,7 @@ other-length xs ys e = is-false (sameWords xs ys) (λ t. e (ap length (same-iff 
 
 module _ (vs : List ℕ) (n : ℕ) where
   abbrev verdict : List ℕ
-  verdict = part (verdictSize * n) verdictSize vs
+  verdict = verdictAt vs n
 
   first-word : getD verdict 0 0 ≡ getD vs (verdictSize * n) 0
   first-word = getD-part vs (verdictSize * n) verdictSize 0 (lit< tt) ∙ rw add-zero

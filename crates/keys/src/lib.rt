@@ -1,6 +1,6 @@
 // Checks 14 to 16: the verdict on an item's signature, and the key under which it was given. Paper: "Words on the shelf", "Item types".
 ghost use mathlib.Core.Path.{_≡_};
-ghost use Prim.Native.Nat.{_+_, _*_, _≤_};
+ghost use Prim.Native.Nat.{_+_, _≤_};
 ghost use lib.ListN.{length};
 ghost use lib.Dec.{T};
 ghost use Rattle.model.specs.Lists.{part};
@@ -8,10 +8,10 @@ ghost use Rattle.model.specs.Words.{sameWords};
 ghost use Rattle.model.specs.Format.{keySize, verdictSize};
 ghost use Rattle.model.specs.History.{itemNo};
 ghost use Rattle.model.specs.Audit.{itemLimit};
-ghost use Rattle.model.specs.Keys.{opening, keyAt, keyOf, verdictOk, keyOk, signatureOk};
-ghost use Rattle.format.specs.Table.{writerOf};
-ghost use Rattle.index.specs.Kept.{before, itemAfter, Kept};
+ghost use Rattle.model.specs.Keys.{keyAt, verdictOk, keyOk, signatureOk};
+ghost use Rattle.index.specs.Kept.{before, Kept};
 ghost use Rattle.state.specs.Stands.{AtItem, IsRow};
+ghost use Rattle.keys.specs.Verdicts.{verdictAt, keyIn, writerKey, openingOf};
 use format::head::Head;
 use format::item::Item;
 use format::size::Size;
@@ -52,7 +52,7 @@ impl Key {
 // 14, no verdict: the nine words of the item after the first are all there, and the first is of kind 3 with nothing but the verdict.
 pub fn verdict_ok(verdicts: &[u32], items: usize) -> bool
     requires { ⌜ items ≤ itemLimit ⌝ }
-    ensures { λ r. ⌜ r ≡ verdictOk (part (verdictSize * items) verdictSize (now (verdicts .entry))) ⌝ }
+    ensures { λ r. ⌜ r ≡ verdictOk (verdictAt (now (verdicts .entry)) items) ⌝ }
 {
     let at = Verdict::SIZE * items;
     if verdicts.len() < at + Verdict::SIZE {
@@ -64,8 +64,8 @@ pub fn verdict_ok(verdicts: &[u32], items: usize) -> bool
 
 // 15, wrong key: the verdict was given under the key of the item's writer.
 pub fn key_ok(board: &[u32], index: &[u32], verdicts: &[u32], s: State, c: Known, row: Row) -> bool
-    requires { ⌜ (AtItem (now board) (now index) s c) × (IsRow (now board) s row) × T (verdictOk (part (verdictSize * s .items) verdictSize (now verdicts))) ⌝ }
-    ensures { λ r. ⌜ r ≡ keyOk (part (verdictSize * s .items) verdictSize (now (verdicts .entry))) (keyOf (before (now (board .entry)) (s .items)) (writerOf (row .writer)) (itemAfter (now (board .entry)) (s .items))) ⌝ }
+    requires { ⌜ (AtItem (now board) (now index) s c) × (IsRow (now board) s row) × T (verdictOk (verdictAt (now verdicts) (s .items))) ⌝ }
+    ensures { λ r. ⌜ r ≡ keyOk (verdictAt (now (verdicts .entry)) (s .items)) (writerKey (now (board .entry)) (s .items) (row .writer)) ⌝ }
 {
     let at = Verdict::SIZE * s.items + 1;
     let item = c.item;
@@ -95,8 +95,8 @@ pub fn key_ok(board: &[u32], index: &[u32], verdicts: &[u32], s: State, c: Known
 
 // 16, bad signature: the verdict is 1.
 pub fn signature_ok(verdicts: &[u32], items: usize) -> bool
-    requires { ⌜ (items ≤ itemLimit) × T (verdictOk (part (verdictSize * items) verdictSize (now verdicts))) ⌝ }
-    ensures { λ r. ⌜ r ≡ signatureOk (part (verdictSize * items) verdictSize (now (verdicts .entry))) ⌝ }
+    requires { ⌜ (items ≤ itemLimit) × T (verdictOk (verdictAt (now verdicts) items)) ⌝ }
+    ensures { λ r. ⌜ r ≡ signatureOk (verdictAt (now (verdicts .entry)) items) ⌝ }
 {
     let at = Verdict::SIZE * items;
     verdicts[at] % 2 == Verdict::GOOD
@@ -113,7 +113,7 @@ fn is_opening_key(
     k: usize,
 ) -> bool
     requires { ⌜ (AtItem (now board) (now index) s c) × (at + keySize ≤ length (now verdicts)) × (k ≤ verdictSize) ⌝ }
-    ensures { λ r. ⌜ r ≡ sameWords (part at keySize (now (verdicts .entry))) (keyAt k (opening (before (now (board .entry)) (s .items)) (itemAfter (now (board .entry)) (s .items)))) ⌝ }
+    ensures { λ r. ⌜ r ≡ sameWords (keyIn (now (verdicts .entry)) at) (keyAt k (openingOf (now (board .entry)) (s .items))) ⌝ }
 {
     if s.items == 0 {
         let item = c.item;
@@ -133,7 +133,7 @@ fn is_earlier_key(
     k: usize,
 ) -> bool
     requires { ⌜ (Kept (now board) (now index) items) × (at + keySize ≤ length (now verdicts)) × (k ≤ verdictSize) ⌝ }
-    ensures { λ r. ⌜ r ≡ sameWords (part at keySize (now (verdicts .entry))) (keyAt k (itemNo (before (now (board .entry)) items) number)) ⌝ }
+    ensures { λ r. ⌜ r ≡ sameWords (keyIn (now (verdicts .entry)) at) (keyAt k (itemNo (before (now (board .entry)) items) number)) ⌝ }
 {
     if number == 0 {
         return false;
@@ -148,7 +148,8 @@ fn is_earlier_key(
 // Whether it is the one from content word k of an item on. There is none where the content is too short.
 fn is_key(board: &[u32], verdicts: &[u32], at: usize, item: Item, k: usize) -> bool
     requires { ⌜ (item .content + item .head .count ≤ length (now board)) × (at + keySize ≤ length (now verdicts)) × (k ≤ verdictSize) ⌝ }
-    ensures { λ r. ⌜ r ≡ sameWords (part at keySize (now (verdicts .entry))) (part k keySize (part (item .content) (item .head .count) (now (board .entry)))) ⌝ }
+    ensures { λ r. ⌜ r
+        ≡ sameWords (keyIn (now (verdicts .entry)) at) (keyIn (part (item .content) (item .head .count) (now (board .entry))) k) ⌝ }
 {
     if item.head.count < k + Size::KEY {
         return false;

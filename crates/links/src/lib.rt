@@ -49,7 +49,8 @@ pub fn previous_ok(board: &[u32], index: &[u32], s: State, c: Known) -> bool
 // 9 orphan: whether the parent is found, and is as listed.
 pub fn parent_ok(board: &[u32], index: &[u32], s: State, c: Known, row: Row) -> bool
     requires { ⌜ (AtItem (now board) (now index) s c) × (IsRow (now board) s row) ⌝ }
-    ensures { λ r. ⌜ r ≡ parentOk base (before (now (board .entry)) (s .items)) (parentRuleOf (row .parent)) (itemAfter (now (board .entry)) (s .items)) ⌝ }
+    ensures { λ r. ⌜ r ≡ parentOk base (before (now (board .entry)) (s .items)) (parentRuleOf (row .parent))
+        (itemAfter (now (board .entry)) (s .items)) ⌝ }
 {
     let rule = row.parent;
     match rule {

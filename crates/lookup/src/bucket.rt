@@ -46,7 +46,8 @@ pub fn link(
 )
     requires { ⌜ Passing (now board) (now index) count c ⌝ }
     requires { ⌜ (now parents ≡ parentChain (now board) count) × (now sessions ≡ sessionChain (now board) count) ⌝ }
-    ensures { λ _. ⌜ (now (parents .exit) ≡ parentChain (now (board .entry)) (count + 1)) × (now (sessions .exit) ≡ sessionChain (now (board .entry)) (count + 1)) ⌝ }
+    ensures { λ _. ⌜ (now (parents .exit) ≡ parentChain (now (board .entry)) (count + 1))
+        × (now (sessions .exit) ≡ sessionChain (now (board .entry)) (count + 1)) ⌝ }
 {
     let at = c.item.address;
     let number = count + 1;

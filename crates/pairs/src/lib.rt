@@ -4,13 +4,11 @@ ghost use mathlib.Core.Path.{_≡_};
 ghost use Prim.Native.Nat.{_≤_};
 ghost use Rattle.model.specs.Lists.{count};
 ghost use Rattle.model.specs.Words.{sameWords};
-ghost use Rattle.model.specs.Item.{itemAt, hashed};
-ghost use Rattle.model.specs.History.{main, mainItems, mainItem};
+ghost use Rattle.model.specs.History.{main, mainItem};
 ghost use Rattle.model.specs.Compare.{backwards, compare};
-ghost use Rattle.format.specs.Base.{base};
 ghost use Rattle.index.specs.Kept.{before, Kept};
 ghost use Rattle.pairs.specs.Agreement.{agreementOf};
-ghost use Rattle.pairs.specs.Reading.{Read, IsItem, Numbered};
+ghost use Rattle.pairs.specs.Reading.{Read, IsItem, Numbered, mainsOf, hashedAt, hashedMain};
 use format::item::Item;
 
 // What comparing two boards finds.
@@ -26,7 +24,7 @@ pub enum Agreement {
 // Whether two items have the same hashed words: all words up to the signature.
 pub fn same_hashed(kept: &[u32], a: Item, later: &[u32], b: Item) -> bool
     requires { ⌜ (Read (now kept) a) × (Read (now later) b) ⌝ }
-    ensures { λ r. ⌜ r ≡ sameWords (hashed (itemAt base (now (kept .entry)) (a .place))) (hashed (itemAt base (now (later .entry)) (b .place))) ⌝ }
+    ensures { λ r. ⌜ r ≡ sameWords (hashedAt (now (kept .entry)) (a .place)) (hashedAt (now (later .entry)) (b .place)) ⌝ }
 {
     if a.head.count != b.head.count {
         return false;
@@ -37,7 +35,7 @@ pub fn same_hashed(kept: &[u32], a: Item, later: &[u32], b: Item) -> bool
 // The main item of a main number.
 pub fn main_item(board: &[u32], index: &[u32], count: usize, number: usize) -> Item
     requires { ⌜ (Kept (now board) (now index) count) × (Numbered (now board) count number) ⌝ }
-    ensures { λ r. ⌜ IsItem (now (board .entry)) (mainItem (mainItems (before (now (board .entry)) count)) number) r ⌝ }
+    ensures { λ r. ⌜ IsItem (now (board .entry)) (mainItem (mainsOf (now (board .entry)) count) number) r ⌝ }
 {
     let k = lookup::main_entry(board, index, count, number);
     index::entry(board, index, count, k).item
@@ -56,7 +54,7 @@ fn same_pair(
 ) -> bool
     requires { ⌜ (Kept (now kept) (now «kept_index») «kept_items») × (Numbered (now kept) «kept_items» a) ⌝ }
     requires { ⌜ (Kept (now later) (now «later_index») «later_items») × (Numbered (now later) «later_items» b) ⌝ }
-    ensures { λ r. ⌜ r ≡ sameWords (hashed (mainItem (mainItems (before (now (kept .entry)) «kept_items»)) a)) (hashed (mainItem (mainItems (before (now (later .entry)) «later_items»)) b)) ⌝ }
+    ensures { λ r. ⌜ r ≡ sameWords (hashedMain (now (kept .entry)) «kept_items» a) (hashedMain (now (later .entry)) «later_items» b) ⌝ }
 {
     let i = main_item(kept, kept_index, kept_items, a);
     let j = main_item(later, later_index, later_items, b);
@@ -76,7 +74,8 @@ pub fn backwards(
 ) -> Agreement
     requires { ⌜ (Kept (now kept) (now «kept_index») «kept_items») × (a ≤ count main (before (now kept) «kept_items»)) ⌝ }
     requires { ⌜ (Kept (now later) (now «later_index») «later_items») × (b ≤ count main (before (now later) «later_items»)) ⌝ }
-    ensures { λ r. ⌜ agreementOf r ≡ backwards (mainItems (before (now (kept .entry)) «kept_items»)) (mainItems (before (now (later .entry)) «later_items»)) a b ⌝ }
+    ensures { λ r. ⌜ agreementOf r
+        ≡ backwards (mainsOf (now (kept .entry)) «kept_items») (mainsOf (now (later .entry)) «later_items») a b ⌝ }
 {
     let mut x = a;
     let mut y = b;
@@ -118,7 +117,8 @@ pub fn compare(
 ) -> Agreement
     requires { ⌜ (Kept (now kept) (now «kept_index») «kept_items») × (1 ≤ a) × (a ≡ count main (before (now kept) «kept_items»)) ⌝ }
     requires { ⌜ (Kept (now later) (now «later_index») «later_items») × (Numbered (now later) «later_items» b) ⌝ }
-    ensures { λ r. ⌜ agreementOf r ≡ compare (mainItems (before (now (kept .entry)) «kept_items»)) (mainItems (before (now (later .entry)) «later_items»)) b ⌝ }
+    ensures { λ r. ⌜ agreementOf r
+        ≡ compare (mainsOf (now (kept .entry)) «kept_items») (mainsOf (now (later .entry)) «later_items») b ⌝ }
 {
     let end = main_item(kept, kept_index, kept_items, a);
     let asked = main_item(later, later_index, later_items, b);

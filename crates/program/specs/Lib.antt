@@ -1,2 +1,3 @@
 -- What the program answers for its files.
 pub mod Read
+pub mod Texts

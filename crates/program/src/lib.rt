@@ -3,14 +3,14 @@ ghost use mathlib.Core.Path.{_≡_};
 ghost use mathlib.Core.List.{List};
 ghost use Prim.Native.Nat.{ℕ, _+_, _*_, _≤_, min};
 ghost use lib.ListN.{length};
-ghost use Rattle.model.specs.Audit.{ballotRow, indexNeed, ballotNeed};
-ghost use Rattle.model.specs.Audit as model;
-ghost use Rattle.model.specs.Program.{fromBytes, programOutcome, textOf, printed};
+ghost use Rattle.model.specs.Audit.{ballotRow};
+ghost use Rattle.model.specs.Program.{fromBytes, printed};
 ghost use Rattle.format.specs.Base.{base};
 ghost use Rattle.text.specs.Answer.{reportText};
 ghost use Rattle.report.specs.Reported.{reported};
 ghost use Rattle.text.specs.Put.{Shown};
 ghost use Rattle.program.specs.Read.{Read};
+ghost use Rattle.program.specs.Texts.{auditText, filesText};
 use format::limit::Limit;
 use refusal::Finding;
 use report::Answer;
@@ -55,7 +55,7 @@ fn report_text(out: &mut [u8], report: Report, table: &[u32]) -> usize
 // The text of the audit of a board, with tables of its own.
 fn audit_text(out: &mut [u8], board: &[u32], verdicts: &[u32]) -> usize
     requires { do ⌜ (← ⟦TEXT⟧) ≤ length (now out) ⌝ }
-    ensures { λ r. ⌜ Shown (now (out .entry)) (textOf (model.audit base (now (board .entry)) (now (verdicts .entry)) indexNeed ballotNeed)) (now (out .exit)) r ⌝ }
+    ensures { λ r. ⌜ Shown (now (out .entry)) (auditText (now (board .entry)) (now (verdicts .entry))) (now (out .exit)) r ⌝ }
 {
     let mut index = [0u32; Limit::INDEX];
     let mut ballots = [0u32; Limit::BALLOTS];
@@ -68,7 +68,9 @@ fn words_text(out: &mut [u8], board: &[u8], verdicts: &[u8]) -> usize
     requires room { do ⌜ (← ⟦TEXT⟧) ≤ length (now out) ⌝ }
     requires board { do ⌜ length (now board) ≤ (← ⟦BOARD⟧) ⌝ }
     requires verdicts { do ⌜ length (now verdicts) ≤ (← ⟦VERDICTS⟧) ⌝ }
-    ensures { λ r. ⌜ Shown (now (out .entry)) (textOf (model.audit base (fromBytes (now (board .entry))) (fromBytes (now (verdicts .entry))) indexNeed ballotNeed)) (now (out .exit)) r ⌝ }
+    ensures { λ r. ⌜ Shown (now (out .entry))
+        (auditText (fromBytes (now (board .entry))) (fromBytes (now (verdicts .entry))))
+        (now (out .exit)) r ⌝ }
 {
     let mut board_words = [0u32; Sizes::BOARD];
     words::words_of(board, &mut board_words);
@@ -88,7 +90,7 @@ fn files_text(out: &mut [u8], sizes: Sizes, board: &[u8], verdicts: &[u8]) -> us
     requires room { do ⌜ (← ⟦TEXT⟧) ≤ length (now out) ⌝ }
     requires board { do ⌜ length (now board) ≤ (← ⟦BOARD⟧) ⌝ }
     requires verdicts { do ⌜ length (now verdicts) ≤ (← ⟦VERDICTS⟧) ⌝ }
-    ensures { λ r. ⌜ Shown (now (out .entry)) (textOf (programOutcome base (sizes .board) (sizes .verdicts) (fromBytes (now (board .entry))) (fromBytes (now (verdicts .entry))))) (now (out .exit)) r ⌝ }
+    ensures { λ r. ⌜ Shown (now (out .entry)) (filesText sizes (now (board .entry)) (now (verdicts .entry))) (now (out .exit)) r ⌝ }
 {
     let finding = sizes.finding();
     match finding {
@@ -110,7 +112,10 @@ pub fn answer(out: &mut [u8], sizes: Sizes, board: &[u8], verdicts: &[u8]) -> us
     requires board { do ⌜ length (now board) ≡ (← ⟦BOARD⟧) ⌝ }
     requires verdicts { do ⌜ length (now verdicts) ≡ (← ⟦VERDICTS⟧) ⌝ }
     ensures within { λ r. ⌜ r ≤ length (now (out .exit)) ⌝ }
-    ensures text { λ r. ⌜ ((b v : List ℕ) → Read (now (board .entry)) (sizes .board) b → Read (now (verdicts .entry)) (sizes .verdicts) v → Shown (now (out .entry)) (printed base b v) (now (out .exit)) r) ⌝ }
+    ensures text { λ r. ⌜ ((b v : List ℕ)
+        → Read (now (board .entry)) (sizes .board) b
+        → Read (now (verdicts .entry)) (sizes .verdicts) v
+        → Shown (now (out .entry)) (printed base b v) (now (out .exit)) r) ⌝ }
 {
     let first = held(sizes.board, board.len());
     let second = held(sizes.verdicts, verdicts.len());

@@ -37,12 +37,16 @@ pub record Stands (board : List ℕ) (s : State) : Type 0 where
   pub rounds : (j : ℕ) → j < 16 → getD (s .rounds) j 0 ≡ roundAt (before board (s .items)) j
   pub ballots : s .ballots ≡ length (counted (before board (s .items)))
 
+-- what the code is to know of the item after them: its parts, its parent and its session
+abbrev pub knownNext : List ℕ → State → Known
+knownNext board s = knownOf board (entryOf (before board (s .items)) (s .place) (itemAfter board (s .items)))
+
 -- a check of the item after them: the head is listed and its count fits, the item lies within the board, and c is what is known of it
 pub record AtItem (board index : List ℕ) (s : State) (c : Known) : Type 0 where
   pub kept : Kept board index (s .items)
   pub stands : Stands board s
   pub more : s .items < itemLimit
-  pub known : c ≡ knownOf board (entryOf (before board (s .items)) (s .place) (itemAfter board (s .items)))
+  pub known : c ≡ knownNext board s
   pub listed : types.Listed base (getD board (s .place) 0)
   pub counted : T (types.fits (listed .row .counts) (countOf (getD board (s .place) 0)))
   pub within : c .item .end ≤ length board

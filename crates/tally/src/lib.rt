@@ -34,8 +34,11 @@ fn main_number(board: &[u32], index: &[u32], count: usize, k: usize) -> u32
 // The ballot table with the item after the first ones, which passes. A cast drops its voter's row and puts its own last: the main number
 // of the ballot, and the voter and the weight of the cast's session. Returns how many rows there are then.
 pub fn after(board: &[u32], index: &[u32], ballots: &mut [u32], s: State, c: Known) -> usize
-    requires { ⌜ (Passing (now board) (now index) (s .items) c) × (Stands (now board) s) × (Tallied (now board) (now ballots) (s .items)) ⌝ }
-    ensures { λ r. ⌜ (Tallied (now (board .entry)) (now (ballots .exit)) (s .items + 1)) × (r ≡ length (counted (before (now (board .entry)) (s .items + 1)))) ⌝ }
+    requires { ⌜ (Passing (now board) (now index) (s .items) c)
+        × (Stands (now board) s)
+        × (Tallied (now board) (now ballots) (s .items)) ⌝ }
+    ensures { λ r. ⌜ (Tallied (now (board .entry)) (now (ballots .exit)) (s .items + 1))
+        × (r ≡ length (counted (before (now (board .entry)) (s .items + 1)))) ⌝ }
 {
     if c.item.head.code != Head::CAST {
         return s.ballots;

@@ -42,7 +42,8 @@ fn keep_row(ballots: &mut [u32], kept: usize, k: usize, voter: u32) -> usize
 // Drops the voter's rows, and moves later ones up. Returns how many rows are left.
 pub fn without_voter(ballots: &mut [u32], rows: usize, voter: u32) -> usize
     requires { ⌜ ballotRow * rows ≤ length (now ballots) ⌝ }
-    ensures { λ r. ⌜ ((xs : List Vote) → HoldsRows (now (ballots .entry)) rows xs → HoldsRows (now (ballots .exit)) r (without voter xs)) ⌝ }
+    ensures { λ r. ⌜ ((xs : List Vote) → HoldsRows (now (ballots .entry)) rows xs
+        → HoldsRows (now (ballots .exit)) r (without voter xs)) ⌝ }
 {
     let mut kept = 0;
     let mut k = 0;

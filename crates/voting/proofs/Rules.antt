@@ -12,8 +12,8 @@ use borrow.Author.Tests.{eq-eqb, ne-eqb, le-leb, lt-leb}
 use Rattle.model.specs.Lists.{_⇒_, part}
 use Rattle.model.specs.Words.{pair, lowZero}
 use Rattle.model.specs.Codes.{sessionType, voterCommitmentType, serverCommitmentType, ballotType}
-use Rattle.model.specs.Item.{Item, code, time, word}
-use Rattle.model.specs.History.{History, itemNo, sessionNumber, sessionContests}
+use Rattle.model.specs.Item.{Item, code, word}
+use Rattle.model.specs.History.{History, itemNo}
 use Rattle.model.specs.Content.{contestsOk, cryptogramsOk, sessionOk, commitmentOk, ballotOk}
 use Rattle.model.proofs.Sets.{size-ones}
 use Rattle.model.proofs.Defined.{allIn-mayVote}
@@ -26,6 +26,7 @@ use Rattle.state.specs.declared.State.{State}
 use Rattle.state.specs.Stands.{AtItem}
 use Rattle.state.proofs.At.{at-code, at-session, at-time, at-content-words}
 use Rattle.fields.proofs.Words.{is-type, not-type, content-length}
+use Rattle.voting.specs.Rules.{mayVoteSet}
 
 -- ---- the last word of each cryptogram
 
@@ -88,12 +89,12 @@ module _ {board index : List ℕ} {s : State} {c : Known} (a : AtItem board inde
 
   -- the set of the contests in which the voter may vote
   pub enabled-is : (t own opened : ℕ) → t ≡ pair (part (c .item .time) 2 board) → own ≡ word 18 (itemNo h (c .session)) → opened ≡ enabledSet t h
-      → bitAnd own opened ≡ bitAnd (sessionContests (itemNo h (sessionNumber h i))) (enabledSet (time i) h)
+      → bitAnd own opened ≡ mayVoteSet h i
   enabled-is t own opened d e u = rw (u, d, e, at-session a, at-time a)
 
   -- the contests w, as many as n, of those in the set v
   pub ballot-is : ((k : ℕ) → getD board k 0 < 2 ^ 32) → c .item .head .code ≡ ballotType → (w n v : ℕ) → w < 2 ^ 32 → w ≡ word 0 i → n ≡ ones w
-      → v ≡ bitAnd (sessionContests (itemNo h (sessionNumber h i))) (enabledSet (time i) h)
+      → v ≡ mayVoteSet h i
       → (eqb (c .item .head .count) (1 + n * 17)
       && eqb (bitAnd w ((2 ^ 32 - 1) - v)) 0
       && cryptogramsOk 17 n (part (c .item .content) (c .item .head .count) board))

@@ -1,18 +1,14 @@
 // Check 13 for voting: session, commitments, ballot. Paper: "Content", "Item types" (sets).
 ghost use mathlib.Core.Path.{_≡_};
-ghost use mathlib.Core.Bool.{_&&_};
 ghost use Prim.Native.Nat.{_+_, _≤_};
-ghost use lib.Bits.{bitAnd};
 ghost use lib.ListN.{length};
 ghost use Rattle.model.specs.Lists.{part};
 ghost use Rattle.model.specs.Words.{setBits};
-ghost use Rattle.model.specs.Item.{time};
-ghost use Rattle.model.specs.History.{itemNo, sessionNumber, sessionContests};
 ghost use Rattle.model.specs.Content.{cryptogramsOk, sessionOk, commitmentOk, ballotOk};
-ghost use Rattle.model.specs.Standing.{enabledSet};
 ghost use Rattle.format.specs.Base.{base};
 ghost use Rattle.index.specs.Kept.{before, itemAfter};
 ghost use Rattle.state.specs.Stands.{AtItem};
+ghost use Rattle.voting.specs.Rules.{votingOk, mayVoteSet};
 use config::contests_ok;
 use fields::Content;
 use fields::earlier_word;
@@ -27,7 +23,7 @@ use state::State;
 // The voters' part of check 13.
 pub fn voting_ok(board: &[u32], index: &[u32], s: State, c: Known) -> bool
     requires { ⌜ AtItem (now board) (now index) s c ⌝ }
-    ensures { λ r. ⌜ r ≡ (sessionOk (before (now (board .entry)) (s .items)) (itemAfter (now (board .entry)) (s .items)) && commitmentOk base (itemAfter (now (board .entry)) (s .items)) && ballotOk base (before (now (board .entry)) (s .items)) (itemAfter (now (board .entry)) (s .items))) ⌝ }
+    ensures { λ r. ⌜ r ≡ votingOk base (before (now (board .entry)) (s .items)) (itemAfter (now (board .entry)) (s .items)) ⌝ }
 {
     if !session_ok(board, index, s, c) {
         return false;
@@ -90,7 +86,7 @@ fn ballot_ok(board: &[u32], index: &[u32], s: State, c: Known) -> bool
 // The contests in which the voter may vote, as a set: those of the session that an open round enables.
 fn enabled(board: &[u32], index: &[u32], s: State, c: Known) -> u32
     requires { ⌜ AtItem (now board) (now index) s c ⌝ }
-    ensures { λ r. ⌜ r ≡ bitAnd (sessionContests (itemNo (before (now (board .entry)) (s .items)) (sessionNumber (before (now (board .entry)) (s .items)) (itemAfter (now (board .entry)) (s .items))))) (enabledSet (time (itemAfter (now (board .entry)) (s .items))) (before (now (board .entry)) (s .items))) ⌝ }
+    ensures { λ r. ⌜ r ≡ mayVoteSet (before (now (board .entry)) (s .items)) (itemAfter (now (board .entry)) (s .items)) ⌝ }
 {
     let time = words::pair_at(board, c.item.time);
     let own = earlier_word(board, index, s.items, c.session, Content::SESSION_CONTESTS);

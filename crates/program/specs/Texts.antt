@@ -1,0 +1,15 @@
+-- What is printed for the words or the bytes at hand. Paper: "The auditing program". Assumes nothing.
+use Prim.Native.Nat.{ℕ}
+use mathlib.Core.List.{List}
+use Rattle.model.specs.Audit.{audit, indexNeed, ballotNeed}
+use Rattle.model.specs.Program.{fromBytes, programOutcome, textOf}
+use Rattle.format.specs.Base.{base}
+use Rattle.text.specs.declared.size.Sizes.{Sizes}
+
+-- for the words of a board and its verdicts: the audit's outcome, with tables as long as they need to be
+abbrev pub auditText : List ℕ → List ℕ → List ℕ
+auditText board verdicts = textOf (audit base board verdicts indexNeed ballotNeed)
+
+-- for two files: their sizes, and the bytes that are kept of them
+abbrev pub filesText : Sizes → List ℕ → List ℕ → List ℕ
+filesText sizes board verdicts = textOf (programOutcome base (sizes .board) (sizes .verdicts) (fromBytes board) (fromBytes verdicts))

@@ -1,0 +1,2 @@
+-- The voters' part of check 13.
+pub mod Rules
