@@ -63,9 +63,12 @@ pub fn ancestry(
     list: &mut [u32],
 ) -> Listing
     ensures answer { λ r. ⌜ answerOf r ≡ ancestryAnswer (listingOutcome board verdicts index ballots list) number ⌝ }
-    ensures index { λ _. ⌜ now (index .exit) ≡ indexAfter (listingOutcome board verdicts index ballots list) (now (index .entry)) ⌝ }
-    ensures ballots { λ _. ⌜ now (ballots .exit) ≡ ballotsAfter (listingOutcome board verdicts index ballots list) (now (ballots .entry)) ⌝ }
-    ensures list { λ _. ⌜ now (list .exit) ≡ listAfter (listingOutcome board verdicts index ballots list) number (now (list .entry)) ⌝ }
+    ensures index { λ _. ⌜ now (index .exit)
+        ≡ indexAfter (listingOutcome board verdicts index ballots list) (now (index .entry)) ⌝ }
+    ensures ballots { λ _. ⌜ now (ballots .exit)
+        ≡ ballotsAfter (listingOutcome board verdicts index ballots list) (now (ballots .entry)) ⌝ }
+    ensures list { λ _. ⌜ now (list .exit)
+        ≡ listAfter (listingOutcome board verdicts index ballots list) number (now (list .entry)) ⌝ }
 {
     // 1 oversize: more words than the limit
     if Limit::WORDS < board.len() {
