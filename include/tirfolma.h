@@ -49,7 +49,7 @@ enum {
 
    False: the answer has fewer than 14 words. No word of any buffer is written.
 
-   Contract: `Audited` in crates/abi/specs/Answer.antt. */
+   Contract: `Audited` in crates/abi/specs/Written.antt. */
 bool tirfolma_audit(
     const uint32_t *board, size_t board_words,
     const uint32_t *verdicts, size_t verdict_words,
@@ -85,7 +85,7 @@ enum {
    leaves them; the later board's are as they were if the kept one is refused, and both are filled under 19.
    False: the answer has fewer than 6 words. No word of any buffer is written.
 
-   Contract: `Compared` in crates/abi/specs/Answer.antt. */
+   Contract: `Compared` in crates/abi/specs/Written.antt. */
 bool tirfolma_compare(
     const uint32_t *kept, size_t kept_words,
     const uint32_t *kept_verdicts, size_t kept_verdict_words,
@@ -117,7 +117,7 @@ enum {
    Under 2 for a list that is too short, the tables are as they were, too.
    False: the answer has fewer than 2 words. No word of any buffer is written.
 
-   Contract: `Listed` in crates/abi/specs/Answer.antt. */
+   Contract: `Listed` in crates/abi/specs/Written.antt. */
 bool tirfolma_ancestry(
     const uint32_t *board, size_t board_words,
     const uint32_t *verdicts, size_t verdict_words,
