@@ -31,12 +31,11 @@ pub round-made : (v : Working) (k w : ℕ) {i j a e : ℕ} → i ≡ t1 v k w �
 unfolding round
 round-made v k w p q s t = cc
 
-pub intermediate-made : (H : List ℕ) (v : Working) {a b c d e f g h : ℕ}
-    → a ≡ v .a ⊞ getD H 0 0 → b ≡ v .b ⊞ getD H 1 0 → c ≡ v .c ⊞ getD H 2 0 → d ≡ v .d ⊞ getD H 3 0
-    → e ≡ v .e ⊞ getD H 4 0 → f ≡ v .f ⊞ getD H 5 0 → g ≡ v .g ⊞ getD H 6 0 → h ≡ v .h ⊞ getD H 7 0
-    → a ∷ b ∷ c ∷ d ∷ e ∷ f ∷ g ∷ h ∷ [] ≡ intermediate H v
+pub intermediate-made : (H : List ℕ) (v s : Working) {a b c d e f g h : ℕ} → s ≡ initialize H
+    → a ≡ v .a ⊞ s .a → b ≡ v .b ⊞ s .b → c ≡ v .c ⊞ s .c → d ≡ v .d ⊞ s .d → e ≡ v .e ⊞ s .e → f ≡ v .f ⊞ s .f
+    → g ≡ v .g ⊞ s .g → h ≡ v .h ⊞ s .h → a ∷ b ∷ c ∷ d ∷ e ∷ f ∷ g ∷ h ∷ [] ≡ intermediate H v
 unfolding intermediate
-intermediate-made H v p q r s t u x y = cc
+intermediate-made H v s o p q r t u x y z = cc
 
 -- ---- messageWord
 

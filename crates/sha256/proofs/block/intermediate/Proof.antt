@@ -12,16 +12,14 @@ returns c =
     let d = e .before in
     let b = d .before .before in
     let a = b .before in
-    let s = a .before .args in
+    let s = a .before in
     intermediate-made
-    (s .t1) (s .v) (a .add .ensures) (b .add2 .ensures) (d .before .add3 .ensures) (d .add4 .ensures) (e .add5 .ensures)
-    (f .add6 .ensures) (g .add7 .ensures) (c .add8 .ensures)
+    (s .before .args .h) (s .before .args .v) (s .initialize .result) (s .initialize .ensures) (a .add .ensures) (b .add2 .ensures)
+    (d .before .add3 .ensures) (d .add4 .ensures) (e .add5 .ensures) (f .add6 .ensures) (g .add7 .ensures) (c .add8 .ensures)
 
 pub intermediate-spec : {M : Type 1} → statement M
 intermediate-spec =
     tie.close
     (tie.spec
-    (λ c. search needs) (λ c κs. search needs) (λ c. search needs) (λ c κs. search needs) (λ c. search needs)
-    (λ c κs. search needs) (λ c. search needs) (λ c κs. search needs) (λ c. search needs) (λ c κs. search needs)
-    (λ c. search needs) (λ c κs. search needs) (λ c. search needs) (λ c κs. search needs) (λ c. search needs)
-    (λ c κs. search needs) returns)
+    (λ c κs. search needs) (λ c κs. search needs) (λ c κs. search needs) (λ c κs. search needs) (λ c κs. search needs)
+    (λ c κs. search needs) (λ c κs. search needs) (λ c κs. search needs) (λ c κs. search needs) returns)
