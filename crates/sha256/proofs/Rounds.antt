@@ -1,4 +1,4 @@
--- Laws of one block: the words of the message schedule, and the rounds over it.
+-- Laws of one block: the equations of 6.2.2, the words of the message schedule, and the rounds over it.
 use mathlib.Core.Path.{_≡_, refl, sym, ap, ap₂, _∙_, subst}
 use mathlib.Core.Logic.{⊎-elim}
 use Prim.Native.Nat.{ℕ, zero, suc, _+_, _-_, _≤_, _<_}
