@@ -171,32 +171,37 @@ twice : (a b c x : ℕ) → a + b + c ≡ 32 → x < 2 ^ 32
 twice a b c x e p =
     turn-xor a (b + c) (omega (arith, e)) x (turn b (a + c) x) p (turn-lt b (a + c) x p) ∙ ap (bitXor (turn a (b + c) x)) (turn-turn a b c x e p)
 
--- ---- Σ and σ
+-- ---- Σ and σ, each from what its rotations in the code give
 
-pub bigSigma0-form : (x : ℕ) → x < 2 ^ 32 → rotr 2 (bitXor x (rotr 11 (bitXor x (rotr 9 x)))) ≡ bigSigma0 x
+rotr-of : (i x : ℕ) {a b r : ℕ} → a ≡ b → r ≡ rotr i (bitXor x a) → r ≡ rotr i (bitXor x b)
+rotr-of i x e d = d ∙ ap (λ (n : ℕ). rotr i (bitXor x n)) e
+
+pub bigSigma0-form : (x : ℕ) → x < 2 ^ 32 → {a b r : ℕ} → a ≡ rotr 9 x → b ≡ rotr 11 (bitXor x a) → r ≡ rotr 2 (bitXor x b)
+    → r ≡ bigSigma0 x
 unfolding bigSigma0
-bigSigma0-form x p =
-    ap (λ (n : ℕ). rotr 2 (bitXor x n)) (twice 11 9 12 x refl p)
+bigSigma0-form x p e d f =
+    rotr-of 2 x (rotr-of 11 x e d ∙ twice 11 9 12 x refl p) f
     ∙ turn-xor 2 30 refl x (bitXor (rotr 11 x) (rotr 20 x)) p (xor-lt 32 (rotr 11 x) (rotr 20 x) (turn-lt 11 21 x p) (turn-lt 20 12 x p))
     ∙ ap (bitXor (rotr 2 x))
     (turn-xor 2 30 refl (rotr 11 x) (rotr 20 x) (turn-lt 11 21 x p) (turn-lt 20 12 x p)
     ∙ ap₂ bitXor (turn-turn 2 11 19 x refl p) (turn-turn 2 20 10 x refl p))
     ∙ sym (xor-assoc 32 (rotr 2 x) (rotr 13 x) (rotr 22 x) (turn-lt 2 30 x p) (turn-lt 13 19 x p) (turn-lt 22 10 x p))
 
-pub bigSigma1-form : (x : ℕ) → x < 2 ^ 32 → rotr 6 (bitXor x (rotr 5 (bitXor x (rotr 14 x)))) ≡ bigSigma1 x
+pub bigSigma1-form : (x : ℕ) → x < 2 ^ 32 → {a b r : ℕ} → a ≡ rotr 14 x → b ≡ rotr 5 (bitXor x a) → r ≡ rotr 6 (bitXor x b)
+    → r ≡ bigSigma1 x
 unfolding bigSigma1
-bigSigma1-form x p =
-    ap (λ (n : ℕ). rotr 6 (bitXor x n)) (twice 5 14 13 x refl p)
+bigSigma1-form x p e d f =
+    rotr-of 6 x (rotr-of 5 x e d ∙ twice 5 14 13 x refl p) f
     ∙ turn-xor 6 26 refl x (bitXor (rotr 5 x) (rotr 19 x)) p (xor-lt 32 (rotr 5 x) (rotr 19 x) (turn-lt 5 27 x p) (turn-lt 19 13 x p))
     ∙ ap (bitXor (rotr 6 x))
     (turn-xor 6 26 refl (rotr 5 x) (rotr 19 x) (turn-lt 5 27 x p) (turn-lt 19 13 x p)
     ∙ ap₂ bitXor (turn-turn 6 5 21 x refl p) (turn-turn 6 19 7 x refl p))
     ∙ sym (xor-assoc 32 (rotr 6 x) (rotr 11 x) (rotr 25 x) (turn-lt 6 26 x p) (turn-lt 11 21 x p) (turn-lt 25 7 x p))
 
-pub smallSigma0-form : (x : ℕ) → x < 2 ^ 32 → bitXor (rotr 7 (bitXor x (rotr 11 x))) (shr 3 x) ≡ smallSigma0 x
+pub smallSigma0-form : (x : ℕ) → x < 2 ^ 32 → {a r : ℕ} → a ≡ rotr 11 x → r ≡ rotr 7 (bitXor x a) → bitXor r (shr 3 x) ≡ smallSigma0 x
 unfolding smallSigma0
-smallSigma0-form x p = ap (λ (n : ℕ). bitXor n (shr 3 x)) (twice 7 11 14 x refl p)
+smallSigma0-form x p e d = ap (λ (n : ℕ). bitXor n (shr 3 x)) (rotr-of 7 x e d ∙ twice 7 11 14 x refl p)
 
-pub smallSigma1-form : (x : ℕ) → x < 2 ^ 32 → bitXor (rotr 17 (bitXor x (rotr 2 x))) (shr 10 x) ≡ smallSigma1 x
+pub smallSigma1-form : (x : ℕ) → x < 2 ^ 32 → {a r : ℕ} → a ≡ rotr 2 x → r ≡ rotr 17 (bitXor x a) → bitXor r (shr 10 x) ≡ smallSigma1 x
 unfolding smallSigma1
-smallSigma1-form x p = ap (λ (n : ℕ). bitXor n (shr 10 x)) (twice 17 2 13 x refl p)
+smallSigma1-form x p e d = ap (λ (n : ℕ). bitXor n (shr 10 x)) (rotr-of 17 x e d ∙ twice 17 2 13 x refl p)

@@ -1,4 +1,4 @@
--- Laws of one block: the words of the message schedule, and the rounds over it.
+-- Laws of one block: the equations of 6.2.2, the words of the message schedule, and the rounds over it.
 use mathlib.Core.Path.{_≡_, refl, sym, ap, ap₂, _∙_, subst}
 use mathlib.Core.Logic.{⊎-elim}
 use Prim.Native.Nat.{ℕ, zero, suc, _+_, _-_, _≤_, _<_}
@@ -11,9 +11,31 @@ use mathlib.Core.Bool.{Bool, true, false}
 use lib.Dec.{ltb}
 use lib.ListN.{length, getD, take, set, length-set, length-append, List·getD-append}
 use lib.Seq.{getD-at, getD-take, take-suc-set}
-use Rattle.sha256.specs.Fips.{_⊞_, smallSigma0, smallSigma1, K, messageWord, schedule, round, rounds, initialize, intermediate, compress}
+use Rattle.sha256.specs.Fips.{_⊞_, ch, maj, bigSigma0, bigSigma1, smallSigma0, smallSigma1, K, messageWord, schedule, t1, t2, round, rounds, initialize, intermediate, compress}
 use Rattle.sha256.specs.Rounds.{Reached, Onward}
 use Rattle.sha256.specs.declared.block.Working.{Working}
+
+-- ---- the equations of 6.2.2, each from what its calls in the code give
+
+pub t1-made : (v : Working) (k w : ℕ) {σ f a b d r : ℕ} → σ ≡ bigSigma1 (v .e) → a ≡ v .h ⊞ σ → f ≡ ch (v .e) (v .f) (v .g) → b ≡ a ⊞ f
+    → d ≡ b ⊞ k → r ≡ d ⊞ w → r ≡ t1 v k w
+unfolding t1
+t1-made v k w p q s t u z = cc
+
+pub t2-made : (v : Working) {σ f r : ℕ} → σ ≡ bigSigma0 (v .a) → f ≡ maj (v .a) (v .b) (v .c) → r ≡ σ ⊞ f → r ≡ t2 v
+unfolding t2
+t2-made v p q s = cc
+
+pub round-made : (v : Working) (k w : ℕ) {i j a e : ℕ} → i ≡ t1 v k w → j ≡ t2 v → a ≡ i ⊞ j → e ≡ v .d ⊞ i
+    → record { a = a; b = v .a; c = v .b; d = v .c; e = e; f = v .e; g = v .f; h = v .g } ≡ round v k w
+unfolding round
+round-made v k w p q s t = cc
+
+pub intermediate-made : (H : List ℕ) (v s : Working) {a b c d e f g h : ℕ} → s ≡ initialize H
+    → a ≡ v .a ⊞ s .a → b ≡ v .b ⊞ s .b → c ≡ v .c ⊞ s .c → d ≡ v .d ⊞ s .d → e ≡ v .e ⊞ s .e → f ≡ v .f ⊞ s .f
+    → g ≡ v .g ⊞ s .g → h ≡ v .h ⊞ s .h → a ∷ b ∷ c ∷ d ∷ e ∷ f ∷ g ∷ h ∷ [] ≡ intermediate H v
+unfolding intermediate
+intermediate-made H v s o p q r t u x y z = cc
 
 -- ---- messageWord
 
@@ -26,6 +48,10 @@ pub messageWord-next : (M W : List ℕ) (t : ℕ) → 16 ≤ t
     → messageWord M W t ≡ smallSigma1 (getD W (t - 2) 0) ⊞ getD W (t - 7) 0 ⊞ smallSigma0 (getD W (t - 15) 0) ⊞ getD W (t - 16) 0
 unfolding messageWord
 messageWord-next M W t p = rw le-ltb
+
+pub messageWord-made : (M W : List ℕ) (t : ℕ) → 16 ≤ t → {σ₁ σ₀ a b r : ℕ} → σ₁ ≡ smallSigma1 (getD W (t - 2) 0) → a ≡ σ₁ ⊞ getD W (t - 7) 0
+    → σ₀ ≡ smallSigma0 (getD W (t - 15) 0) → b ≡ a ⊞ σ₀ → r ≡ b ⊞ getD W (t - 16) 0 → r ≡ messageWord M W t
+messageWord-made M W t p q s u x y = cc (messageWord-next M W t p)
 
 -- the word at t goes by the words before it alone
 pub messageWord-before : (M U W : List ℕ) (t : ℕ) → ((j : ℕ) → j < t → getD U j 0 ≡ getD W j 0) → messageWord M U t ≡ messageWord M W t

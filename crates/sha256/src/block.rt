@@ -153,15 +153,16 @@ fn round(v: Working, k: u32, w: u32) -> Working
 fn intermediate(h: [u32; 8], v: Working) -> [u32; 8]
     ensures { λ r. ⌜ r ≡ fips.intermediate h v ⌝ }
 {
+    let before = initialize(h);
     [
-        add(v.a, h[0]),
-        add(v.b, h[1]),
-        add(v.c, h[2]),
-        add(v.d, h[3]),
-        add(v.e, h[4]),
-        add(v.f, h[5]),
-        add(v.g, h[6]),
-        add(v.h, h[7]),
+        add(v.a, before.a),
+        add(v.b, before.b),
+        add(v.c, before.c),
+        add(v.d, before.d),
+        add(v.e, before.e),
+        add(v.f, before.f),
+        add(v.g, before.g),
+        add(v.h, before.h),
     ]
 }
 

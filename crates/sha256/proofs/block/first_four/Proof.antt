@@ -1,5 +1,5 @@
 -- `block::first_four` meets its contract: four rounds, one after the other.
-use borrow.Author.Needs.{needs}
+use native.Mathlib.Omega.{arith}
 use Rattle.sha256.proofs.Rounds.{onward-four}
 use Rattle.sha256.proofs.block.first_four.Statement.{statement}
 use Rattle.sha256.proofs.block.first_four.Tie as tie
@@ -16,5 +16,11 @@ pub first-four-spec : {M : Type 1} → statement M
 first-four-spec =
     tie.close
     (tie.spec
-    (λ c κs. search needs) (λ c. search needs) (λ c κs. search needs) (λ c. search needs) (λ c κs. search needs)
-    (λ c. search needs) (λ c κs. search needs) returns)
+    (λ c κs. let s = c .before .before in (s .pre .0, s .pre .1, omega arith))
+    (λ c. omega arith)
+    (λ c κs. let s = c .before .before .before .before in (s .pre .0, s .pre .1, omega arith))
+    (λ c. omega arith)
+    (λ c κs. let s = c .before .before .before .before .before .before in (s .pre .0, s .pre .1, omega arith))
+    (λ c. omega arith)
+    (λ c κs. let s = c .before .before .before .before .before .before .before .before in (s .pre .0, s .pre .1, omega arith))
+    returns)

@@ -1,5 +1,5 @@
 -- `block::four_steps` meets its contract: four rounds, one after the other.
-use borrow.Author.Needs.{needs}
+use native.Mathlib.Omega.{arith}
 use Rattle.sha256.proofs.Rounds.{onward-four}
 use Rattle.sha256.proofs.block.four_steps.Statement.{statement}
 use Rattle.sha256.proofs.block.four_steps.Tie as tie
@@ -16,5 +16,11 @@ pub four-steps-spec : {M : Type 1} → statement M
 four-steps-spec =
     tie.close
     (tie.spec
-    (λ c κs. search needs) (λ c. search needs) (λ c κs. search needs) (λ c. search needs) (λ c κs. search needs)
-    (λ c. search needs) (λ c κs. search needs) returns)
+    (λ c κs. (c .before .pre .0, omega arith, omega arith))
+    (λ c. omega arith)
+    (λ c κs. (c .before .before .before .pre .0, omega arith, omega arith))
+    (λ c. omega arith)
+    (λ c κs. (c .before .before .before .before .before .pre .0, omega arith, omega arith))
+    (λ c. omega arith)
+    (λ c κs. (c .before .before .before .before .before .before .before .pre .0, omega arith, omega arith))
+    returns)

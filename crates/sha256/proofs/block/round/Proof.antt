@@ -1,12 +1,15 @@
 -- `block::round` meets its contract.
 use borrow.Author.Needs.{needs}
-use Rattle.sha256.specs.Fips.{round}
+use Rattle.sha256.proofs.Rounds.{round-made}
 use Rattle.sha256.proofs.block.round.Statement.{statement}
 use Rattle.sha256.proofs.block.round.Tie as tie
 
 returns : tie.Need-returns
-unfolding round
-returns c = cc
+returns c =
+    let j = c .before .before in
+    let i = j .before in
+    let g = i .before .args in
+    round-made (g .v) (g .k) (g .w) (i .t1 .ensures) (j .t2 .ensures) (c .before .add .ensures) (c .add2 .ensures)
 
 pub round-spec : {M : Type 1} → statement M
 round-spec =

@@ -1,12 +1,20 @@
 -- `block::t1` meets its contract.
 use borrow.Author.Needs.{needs}
-use Rattle.sha256.specs.Fips.{t1}
+use Rattle.sha256.proofs.Rounds.{t1-made}
 use Rattle.sha256.proofs.block.t1.Statement.{statement}
 use Rattle.sha256.proofs.block.t1.Tie as tie
 
 returns : tie.Need-returns
-unfolding t1
-returns c = cc
+returns c =
+    let d = c .before in
+    let b = d .before in
+    let f = b .before in
+    let a = f .before in
+    let σ = a .before in
+    let g = σ .before .args in
+    t1-made
+    (g .v) (g .k) (g .w) (σ .big-sigma1 .ensures) (a .add .ensures) (f .ch .ensures) (b .add2 .ensures) (d .add3 .ensures)
+    (c .add4 .ensures)
 
 pub t1-spec : {M : Type 1} → statement M
 t1-spec =

@@ -1,12 +1,13 @@
 -- `block::t2` meets its contract.
 use borrow.Author.Needs.{needs}
-use Rattle.sha256.specs.Fips.{t2}
+use Rattle.sha256.proofs.Rounds.{t2-made}
 use Rattle.sha256.proofs.block.t2.Statement.{statement}
 use Rattle.sha256.proofs.block.t2.Tie as tie
 
 returns : tie.Need-returns
-unfolding t2
-returns c = cc
+returns c =
+    let σ = c .before .before in
+    t2-made (σ .before .args .v) (σ .big-sigma0 .ensures) (c .before .maj .ensures) (c .add .ensures)
 
 pub t2-spec : {M : Type 1} → statement M
 t2-spec =
