@@ -32,9 +32,10 @@ use Rattle.state.specs.declared.State.{State}
 use Rattle.tally.specs.Tallied.{Tallied}
 use Rattle.refusal.proofs.Laws.{number-some}
 use Rattle.report.specs.declared.Report.{Report}
-use Rattle.audit.specs.declared.step.Step.{Step}
+use Rattle.step.specs.declared.Step.{Step}
+use Rattle.step.specs.Steps.{Reached, Stepped}
 use Rattle.report.specs.Reported.{reported}
-use Rattle.audit.specs.Steps.{Sized, Zeros, Reached, Stepped, Holds}
+use Rattle.audit.specs.Tables.{Sized, Zeros, Holds}
 
 -- ---- 3
 

@@ -23,7 +23,7 @@ use Rattle.report.specs.declared.Report.{Report}
 use Rattle.report.specs.declared.Answer.{Answer}
 use Rattle.report.specs.declared.Answer.the-variants.{Accepted, Refused}
 use Rattle.report.specs.Reported.{answered, reported}
-use Rattle.audit.specs.Steps.{Sized, Zeros, Holds}
+use Rattle.audit.specs.Tables.{Sized, Zeros, Holds}
 
 -- ---- no items yet
 

@@ -1,3 +1,3 @@
--- The outcome that the contracts name, and what the steps of the audit ensure.
+-- The outcome that the contracts name, and the tables.
 pub mod Outcome
-pub mod Steps
+pub mod Tables

@@ -9,7 +9,6 @@ use refusal::Refusal;
 use report::Report;
 
 pub mod run;
-pub mod step;
 
 // Audits a board with its verdict words. The index table and the ballot table are lent for writing: the word limit and 2 change neither,
 // every later refusal leaves both all zero, and acceptance leaves the rows and zeros.

@@ -1,16 +1,12 @@
 // The items in their order, up to the first refusal or the closing word.
 ghost use mathlib.Core.Path.{_≡_};
-ghost use mathlib.Core.List.{[]};
-ghost use Prim.Native.Nat.{_≤_};
-ghost use lib.ListN.{length, replicate};
 ghost use Rattle.model.specs.Audit.{isEmpty};
 ghost use Rattle.model.specs.Report.{reportOf, indexAfter, ballotsAfter};
 ghost use Rattle.format.specs.Base.{base};
 ghost use Rattle.lookup.specs.Buckets.{parentChain, sessionChain};
 ghost use Rattle.report.specs.Reported.{reported};
 ghost use Rattle.audit.specs.Outcome.{itemsOutcome, outcomeOf};
-ghost use Rattle.audit.specs.Steps.{Sized, Zeros, Holds};
-use crate::step;
+ghost use Rattle.audit.specs.Tables.{Sized, Zeros, Holds};
 use chains::Chain;
 use format::head::Head;
 use format::limit::Limit;

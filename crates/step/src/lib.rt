@@ -4,7 +4,7 @@ ghost use Prim.Native.Nat.{_+_, _<_};
 ghost use lib.ListN.{length};
 ghost use Rattle.model.specs.Audit.{itemLimit};
 ghost use Rattle.index.specs.Known.{Passing};
-ghost use Rattle.audit.specs.Steps.{Reached, Stepped};
+ghost use Rattle.step.specs.Steps.{Reached, Stepped};
 use index::Known;
 use judge::Judged;
 use refusal::Finding;

@@ -1,8 +1,8 @@
 -- `pass` meets its contract. Assumes nothing.
-use Rattle.audit.proofs.Advance.{mains-before, reached-next}
+use Rattle.step.proofs.Advancing.{mains-before, reached-next}
 use borrow.Author.Needs.{needs}
-use Rattle.audit.proofs.step.pass.Statement.{statement}
-use Rattle.audit.proofs.step.pass.Tie as tie
+use Rattle.step.proofs.pass.Statement.{statement}
+use Rattle.step.proofs.pass.Tie as tie
 
 after-requires : tie.Need-after-requires
 after-requires c κs = search needs

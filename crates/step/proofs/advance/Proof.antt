@@ -1,8 +1,8 @@
 -- `advance` meets its contract. Assumes nothing.
-use Rattle.audit.proofs.Advance.{judged-passing, stepped-passes, stepped-fails}
+use Rattle.step.proofs.Advancing.{judged-passing, stepped-passes, stepped-fails}
 use borrow.Author.Needs.{needs}
-use Rattle.audit.proofs.step.advance.Statement.{statement}
-use Rattle.audit.proofs.step.advance.Tie as tie
+use Rattle.step.proofs.advance.Statement.{statement}
+use Rattle.step.proofs.advance.Tie as tie
 
 judge-requires : tie.Need-judge-requires
 judge-requires c κs = search needs

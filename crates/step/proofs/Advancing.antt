@@ -20,7 +20,7 @@ use Rattle.judge.specs.Judged.{IsJudged}
 use Rattle.judge.specs.declared.Judged.{Judged}
 use Rattle.judge.specs.declared.Judged.the-variants.{Passes, Fails}
 use Rattle.refusal.proofs.Laws.{number-some}
-use Rattle.audit.specs.Steps.{Reached, Stepped}
+use Rattle.step.specs.Steps.{Reached, Stepped}
 
 -- the main items before the next one are all of them
 pub mains-before : {board : List ℕ} {s : State} → Stands board s → s .mains ≡ mainNumber (before board (s .items)) (s .items)

@@ -1,0 +1,2 @@
+-- One step of the audit.
+pub mod Advancing

@@ -1,0 +1,2 @@
+-- What a step of the audit ensures.
+pub mod Steps
