@@ -5,7 +5,7 @@ use native.Mathlib.Numerals.{add-one}
 use native.Mathlib.Omega.{arith}
 use mathlib.Core.Path.{_≡_, sym, ap, _∙_}
 use mathlib.Core.List.{List, [], _∷_, _++_, append-assoc, append-nil}
-use lib.ListN.{length, getD, take, drop}
+use lib.ListN.{length, getD, take, drop, length-take, length-drop}
 use lib.Seq.{take-suc, take-all}
 use lib.Dec.{T, lit<}
 use Rattle.model.specs.Lists.{if_then_else_, part, count}
@@ -127,6 +127,9 @@ module _ {board : List ℕ} {e : Entry} {r : Known} (k : IsKnown board e r) wher
       let ends = content-ends in
       let short = content-short in
       record { start = omega arith; end = omega (arith, known-within k .content); short = omega arith }
+
+  pub content-few : length (take (r .item .parent - r .item .content) (drop (r .item .content) board)) ≤ 65535
+  content-few = let w = content-in in simp (length-take, length-drop) (omega arith)
 
   content-slice : take (r .item .parent - r .item .content) (drop (r .item .content) board) ≡ e .item .content
   unfolding part

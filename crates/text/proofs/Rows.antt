@@ -1,5 +1,5 @@
 -- Laws of the ballot rows' lines: one row more. Assumes nothing.
-use Prim.Native.Nat.{ℕ, zero, suc, _+_, _*_, _≤_, _<_}
+use Prim.Native.Nat.{ℕ, zero, suc, _+_, _*_, _^_, _≤_, _<_}
 use native.Mathlib.Omega.{arith}
 use mathlib.Core.Path.{_≡_, refl, sym, ap, _∙_}
 use mathlib.Core.List.{List, [], _∷_, _++_, append-assoc}
@@ -9,6 +9,7 @@ use Rattle.model.specs.Audit.{ballotRow}
 use Rattle.model.specs.Program.{decimal, spaced, line, rowLines}
 use Rattle.text.specs.Put.{Put}
 use Rattle.text.proofs.Placed.{put-then}
+use Rattle.text.proofs.Lines.{length-row}
 
 -- whole rows, then words
 rowLines-append : (k : ℕ) (xs ys : List ℕ) → length xs ≡ ballotRow * k → rowLines (xs ++ ys) ≡ rowLines xs ++ rowLines ys
@@ -42,7 +43,10 @@ module _ (t : List ℕ) (k : ℕ) where
       rw (e, take-add (ballotRow * k) ballotRow t, take-three t (ballotRow * k) h)
       (rowLines-append k (take (ballotRow * k) t) _ (simp length-take (omega arith)))
 
-  -- one row more
-  pub put-row-more : {l m n : List ℕ} {i j e : ℕ} → ballotRow * k + ballotRow ≤ length t
-      → Put l i (rowLines (take (ballotRow * k) t)) m j → Put m j rowLine n e → Put l i (rowLines (take (ballotRow * (k + 1)) t)) n e
-  put-row-more h p q = rw (rowLines-more h) (put-then p q)
+  -- one row more, in at most 64 bytes
+  pub put-row-more : {l m n : List ℕ} {at j e rows : ℕ} → k < rows → ballotRow * rows ≤ length t → ((i : ℕ) → getD t i 0 < 2 ^ 32)
+      → Put l at (rowLines (take (ballotRow * k) t)) m j → j ≤ at + 64 * k → Put m j rowLine n e
+      → (k + 1 ≤ rows) × (Put l at (rowLines (take (ballotRow * (k + 1)) t)) n e) × (e ≤ at + 64 * (k + 1))
+  put-row-more less room small p most q =
+      let row = length-row (getD t (ballotRow * k) 0) (getD t (ballotRow * k + 1) 0) (getD t (ballotRow * k + 2) 0) (small _) (small _) (small _) in
+      (omega arith, rw (rowLines-more (omega arith)) (put-then p q), omega (arith, row, q .behind))

@@ -52,7 +52,7 @@ next c =
     walk-goes (byVoter-small _) (s .pre .0 .few) (s .pre .1) (l .loop .k) (some (c .before .before .before .before)) (l .loop .inv .0) (l .loop .inv .1) (c .behind .ensures)
 
 entry-requires : tie.Need-entry-requires Inv-loop μ-loop
-entry-requires c κs = search needs
+entry-requires c κs = let l = c .before in (l .before .before .before .before .before .before .pre .0, (some c, l .loop .inv .0))
 
 is-session-of-requires : tie.Need-is-session-of-requires Inv-loop μ-loop
 is-session-of-requires c κs =

@@ -1,10 +1,10 @@
 -- `fingerprint` meets its contract. The loop's invariant: the hash was fed the contents of the first k counted ballots. Assumes nothing.
 use mathlib.Core.Path.{_≡_, _∙_}
 use Prim.Native.Nat.{_≤_, _*_, _-_}
-use lib.ListN.{length, getD, take, drop, length-take, length-drop}
+use lib.ListN.{getD, take}
 use Rattle.model.specs.Audit.{itemLimit, ballotRow}
 use Rattle.lookup.specs.Search.{mainEntry}
-use Rattle.tally.proofs.Message.{rows-few, content-in, item-in, message-more, message-all}
+use Rattle.tally.proofs.Message.{rows-few, content-in, content-few, item-in, message-more, message-all}
 use Rattle.model.specs.Counted.{counted, contents}
 use Rattle.sha256.specs.State.{Holds}
 use Rattle.index.specs.Kept.{before}
@@ -77,10 +77,9 @@ part-words-end c = let w = content-in (c .before .entry .ensures) in omega arith
 
 words-requires : tie.Need-words-requires Inv-loop μ-loop
 words-requires c κs =
-    let w = content-in (c .before .before .entry .ensures) in
     let l = c .before .before .before .before .before .before .before .before .loop .inv in
     let f = few (c .before .before .before .before .before .before .before .before .before .before .before .before .before) in
-    simp (length-take, length-drop) (omega arith)
+    omega (arith, content-few (c .before .before .entry .ensures))
 
 add-k : tie.Need-add-k Inv-loop μ-loop
 add-k c = let f = few (c .before .before .before .before .before .before .before .before .before .before .before .before .before .before) in omega arith
@@ -96,9 +95,7 @@ loop-again c =
     let more = c .before .before .before .before .before .before .before .if1 .taken in
     let item = c .before .before .before .before in
     let e = c .before .before .before .entry in
-    let it = e .result .item in
-    let w = content-in (e .ensures) in
-    let size : length (take (it .parent - it .content) (drop (it .content) (start .args .board .now))) ≤ 65535 = simp (length-take, length-drop) (omega arith) in (
+    let size = content-few (e .ensures) in (
       omega arith,
       omega (arith, c .words .ensures .count, l .inv .1),
       message-more (p .0) (p .1) (p .2) (l .k) more (item .main-entry .result) (found item) (e .result) (e .ensures) (l .hash) (c .words .result)

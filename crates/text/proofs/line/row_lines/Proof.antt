@@ -1,12 +1,11 @@
 -- `text::line::row_lines` meets its contract. The invariant: the lines of the first k rows are put. Assumes nothing.
 use mathlib.Core.Path.{_≡_, refl, _∙_}
 use Prim.Native.Nat.{_+_, _*_, _-_, _≤_}
-use lib.ListN.{length, take, getD}
+use lib.ListN.{length, take}
 use Rattle.model.specs.Audit.{ballotRow}
 use Rattle.model.specs.Program.{rowLines}
 use Rattle.text.specs.Put.{Put}
 use Rattle.text.proofs.Placed.{put-none}
-use Rattle.text.proofs.Lines.{length-row}
 use Rattle.text.proofs.Rows.{put-row-more}
 use native.Mathlib.Omega.{arith}
 use borrow.Author.Needs.{needs}
@@ -66,13 +65,10 @@ loop-again : tie.Need-loop-again Inv-loop μ-loop
 loop-again c =
     let l = c .before .before .before .before .before .before .before .before in
     let s = l .before .before .before in
-    let t = s .args .table .now in
-    let k = l .loop .k in
-    let small = l .before .shared-slice-known .given in
     let row = c .before .before .row-line in
-    let long = length-row (getD t (ballotRow * k) 0) (getD t (ballotRow * k + 1) 0) (getD t (ballotRow * k + 2) 0)
-    (omega (arith, small (ballotRow * k))) (omega (arith, small (ballotRow * k + 1))) (omega (arith, small (ballotRow * k + 2))) in
-    (search needs, put-row-more t k (omega arith) (l .loop .inv .1) (row .ensures), omega (arith, long, row .ensures .behind), row .kept .0 ∙ l .loop .inv .3)
+    let more = put-row-more (s .args .table .now) (l .loop .k) (c .before .before .before .before .before .before .before .loop-test .taken) (s .pre .1) (λ i. l .before .shared-slice-known .given i .fits)
+    (l .loop .inv .1) (l .loop .inv .2) (row .ensures) in
+    (more .0, more .1, more .2, row .kept .0 ∙ l .loop .inv .3)
 
 same-length : tie.Need-same-length Inv-loop μ-loop
 same-length c = search needs
