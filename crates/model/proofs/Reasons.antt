@@ -28,7 +28,7 @@ use Rattle.model.proofs.Steps.{itemsFrom, judged-refused, items-start, 
 
 -- ---- an item's fault is its first reason's number
 
-unmet : Check → Reason
+unfoldable pub unmet : Check → Reason
 unmet c = record { number = c .number; applies = not (c .met) }
 
 unmet-number : (cs : List Check) → firstUnmet cs ≡ firstNumber (map unmet cs)
