@@ -1,9 +1,11 @@
 -- A whole election under a toy hash, found sound by computing its audit: a spoiled ballot with its hidden track, a counted ballot, and the
 -- extraction. So what is proved of sound boards is proved of boards that have all of that. Assumes nothing.
-use Prim.Native.Nat.{ℕ, _-_}
-use mathlib.Core.Path.{_≡_, refl, ap}
+use Prim.Native.Nat.{ℕ, _-_, _≤_}
+use native.Mathlib.Omega.{arith}
+use mathlib.Core.Path.{_≡_, refl, ap, _∙_}
 use mathlib.Core.List.{List, [], _∷_, _++_}
 use lib.ListN.{length, replicate, getD}
+use lib.Dec.{lit≤}
 use lib.Count.{onesIn}
 use Rattle.model.specs.Lists.{if_then_else_, _⇒_, part, any, count, keep, latest}
 use Rattle.model.specs.Words.{kindOf, codeOf, countOf, sameWords, pair, closingWord, lowZero, member, everyBelow, allIn}
@@ -17,13 +19,13 @@ use Rattle.model.specs.Phase.{rounds, isOpen, extractionOk, openOk, stan
 use Rattle.model.specs.Only.{onBoardOk, underParentOk, underBallotOk, onlyOk}
 use Rattle.model.specs.Content.{contestsOk, mayVote, cryptogramsOk, contestOk, thresholdOk, authorizerOk, roundOk, sessionOk, commitmentOk, ballotOk, fingerprintOk, trusteesOk, contentOk}
 use Rattle.model.specs.Keys.{opening, keyOf, goodVerdict, verdictOk, keyOk, signatureOk}
-use Rattle.model.specs.Audit.{accepted, firstUnmet, checks, faultIn, closing, judged, wordAt, items, audit, indexNeed, ballotNeed}
+use Rattle.model.specs.Audit.{Outcome, unread, refused, accepted, firstUnmet, checks, faultIn, closing, judged, wordAt, items, audit, indexNeed, ballotNeed}
 use Rattle.model.specs.Report.{reportOf, ballotRows}
 use Rattle.model.specs.Sound.{Sound}
 use Rattle.model.specs.Ancestry.{upTo, ancestry}
 use Rattle.model.specs.Program.{digits, spaced, acceptedLine, rowLines, textOf}
 use Rattle.model.proofs.Acceptance.{accepted↔sound}
-use Rattle.model.proofs.Unchecked.{length-history}
+use Rattle.model.proofs.Unchecked.{length-history, accepted-history}
 
 -- the last word, eight times over: of an item's hashed words that is the low word of its time
 abbrev toy : Format
@@ -97,9 +99,26 @@ board = wordsIn election ++ (closingWord 21 ∷ [])
 abbrev pub verdicts : List ℕ
 verdicts = verdictsIn election
 
+-- how many items an accepted board has
+items-in : Outcome → ℕ
+items-in (unread n) = 0
+items-in (refused n k) = 0
+items-in (accepted h) = length h
+
+all-accepted : items-in (audit toy board verdicts indexNeed ballotNeed) ≡ 21
+unfolding election wordsIn verdictsIn wordsOf hashed if_then_else_ _⇒_ part any count keep latest onesIn kindOf codeOf countOf sameWords pair lowZero member everyBelow allIn itemLength itemAt rowOf rowIn table fits entry firstFrom lastFrom mainItem endAfter endAddress parentNumber sessionNumber entryOf placeOf history voteOf counted contents addressOk previousOk parentOk timeOk rounds isOpen extractionOk openOk standingOk latestOk intentOk phaseOk onBoardOk underParentOk underBallotOk onlyOk contestsOk mayVote cryptogramsOk contestOk thresholdOk authorizerOk roundOk sessionOk commitmentOk ballotOk fingerprintOk trusteesOk contentOk opening keyOf verdictOk keyOk signatureOk firstUnmet checks faultIn closing judged wordAt items audit items-in
+all-accepted = refl
+
+-- so it is accepted, with its first items
+accepted-by : (f : Format) (ws vs : List ℕ) (index ballots n : ℕ) (o : Outcome) → audit f ws vs index ballots ≡ o → items-in o ≡ n → 1 ≤ n
+    → o ≡ accepted (history f ws n)
+unfolding items-in
+accepted-by f ws vs index ballots n (unread m) q e l = absurd (omega arith)
+accepted-by f ws vs index ballots n (refused m k) q e l = absurd (omega arith)
+accepted-by f ws vs index ballots n (accepted h) q e l = ap accepted (accepted-history f ws vs index ballots h q ∙ ap (history f ws) e)
+
 pub is-accepted : audit toy board verdicts indexNeed ballotNeed ≡ accepted (history toy board 21)
-unfolding election wordsIn verdictsIn wordsOf hashed if_then_else_ _⇒_ part any count keep latest onesIn kindOf codeOf countOf sameWords pair lowZero member everyBelow allIn itemLength itemAt rowOf rowIn table fits entry firstFrom lastFrom mainItem endAfter endAddress parentNumber sessionNumber entryOf placeOf history voteOf counted contents addressOk previousOk parentOk timeOk rounds isOpen extractionOk openOk standingOk latestOk intentOk phaseOk onBoardOk underParentOk underBallotOk onlyOk contestsOk mayVote cryptogramsOk contestOk thresholdOk authorizerOk roundOk sessionOk commitmentOk ballotOk fingerprintOk trusteesOk contentOk opening keyOf verdictOk keyOk signatureOk firstUnmet checks faultIn closing judged wordAt items audit
-is-accepted = refl
+is-accepted = accepted-by toy board verdicts indexNeed ballotNeed 21 _ refl all-accepted (lit≤ tt)
 
 pub is-sound : Sound toy board verdicts (history toy board 21)
 is-sound = accepted↔sound toy board verdicts indexNeed ballotNeed (history toy board 21) .0 is-accepted .0
