@@ -4,29 +4,35 @@ use Prim.Native.Nat.{ℕ, zero, suc, _+_, _*_, _≤_, _<_, zero-le}
 use native.Mathlib.Nat.{not-suc-le-zero}
 use native.Mathlib.Decide.{decLe}
 use native.Mathlib.Omega.{arith}
-use mathlib.Core.Path.{_≡_, refl, sym, ap}
+use mathlib.Core.Path.{_≡_, refl, sym, ap, _∙_}
 use mathlib.Core.Logic.{_↔_, by-cases}
+use mathlib.Core.Bool.{not}
 use mathlib.Core.Option.{Option, none, some}
 use mathlib.Core.List.{List, _++_, append-assoc}
 use lib.ListN.{length, getD, take, drop, take-append-drop, length-append}
 use lib.Seq.{drop-at, length-take-le}
-use Rattle.model.specs.Lists.{any, part}
+use lib.Dec.{ltb}
+use Rattle.model.specs.Lists.{part}
 use Rattle.model.specs.Words.{countOf, closingKind}
+use Rattle.model.specs.Refusal.{noFault}
 use Rattle.model.specs.Format.{Format, verdictSize}
 use Rattle.model.specs.Item.{Item, itemAt, itemLength, behind, wordsOf}
-use Rattle.model.specs.Types.{Row, rowOf}
+use Rattle.model.specs.Types.{Row, rowOf, fits}
 use Rattle.model.specs.History.{History, placeOf, history}
-use Rattle.model.specs.Audit.{checks, itemLimit, verdictOf}
+use Rattle.model.specs.Audit.{Check, checks, faultIn, fault, itemLimit, verdictOf}
 use Rattle.model.specs.Sound.{Meets, Passed, next, Beginning}
-use Rattle.model.specs.Reasons.{NoneOf, HeadAt, listedWith, itemReasons, PassedFirst}
-use Rattle.model.proofs.Tests.{tests, ne→neqb, neither, not-not}
+use Rattle.model.specs.Reasons.{NoneOf, HeadAt, itemReasons, PassedFirst}
+use Rattle.model.proofs.Tests.{tests, ne→neqb, not-not, by-if}
 use Rattle.model.proofs.Parts.{cut, take-part}
 use Rattle.model.proofs.Parsing.{length-words, item-here, shaped-at, words-at}
 use Rattle.model.proofs.Table.{no-closing}
 use Rattle.model.proofs.Entries.{orderly}
 use Rattle.model.proofs.Keys.{verdict-words, length-verdicts}
-use Rattle.model.proofs.Checks.{meets, met}
+use Rattle.model.proofs.Checks.{numbers-map, by-checks, meets}
 use Rattle.model.proofs.Unchecked.{length-history, passed-history}
+use Rattle.model.proofs.Reasons.{fault-number, few, some-number}
+use Rattle.model.proofs.FirstReason.{by-first, none-number, first-number}
+use Rattle.model.proofs.SoundAccepted.{item-step}
 
 module _ (f : Format) (ws vs : List ℕ) (k : ℕ) where
   abbrev here : ℕ
@@ -36,22 +42,33 @@ module _ (f : Format) (ws vs : List ℕ) (k : ℕ) where
   abbrev Meeting : Type 0
   Meeting = (behind f ws here ≤ length ws) × Meets f (history f ws k) (verdictOf f ws vs (history f ws k)) (itemAt f ws here)
 
-  meets-row : (row : Option Row) → rowOf f (getD ws here 0) ≡ row → NoneOf (itemReasons f ws vs k) → Meeting
-  unfolding any itemReasons listedWith itemAt checks
-  meets-row none q u = absurd (simp (neither, not-not) at (rw q at u) .1 .0)
-  meets-row (some r) q u =
-      let (small, (listed, (counted, (whole, rules)))) = simp (neither, not-not) at (rw q at u) in
+  -- it does where it has no fault
+  fault-meets : (row : Option Row) → rowOf f (getD ws here 0) ≡ row → faultIn f ws vs row (history f ws k) here ≡ noFault → Meeting
+  unfolding faultIn itemAt checks
+  fault-meets none q e = absurd (omega arith)
+  fault-meets (some r) q e =
+      let Goal : ℕ → Type 0 = λ n. n ≡ noFault → Meeting in
+      let fitting = fits (r .counts) (countOf (getD ws here 0)) in
+      let rules : List Check = checks f (history f ws k) (verdictOf f ws vs (history f ws k)) r (itemAt f ws here) in
+      by-if Goal (not fitting) _ _ (λ t d. absurd (omega arith))
+      (λ t. by-if Goal (ltb (length ws) (behind f ws here)) _ _ (λ u d. absurd (omega arith))
+      λ u.
       let fit : behind f ws here ≤ length ws = omega (arith, tests) in
-      (fit, meets f _ _ (itemAt f ws here) (record { row = r; found = q }) counted (shaped-at f ws here fit) rules)
+      by-checks Goal rules
+      (λ met d. (fit, meets f _ _ (itemAt f ws here) (record { row = r; found = q }) (not-not fitting .0 t) (shaped-at f ws here fit) met))
+      (numbers-map (λ n. 1 ≤ n) Goal (λ n l d. absurd (omega arith)) rules (omega arith)))
+      e
 
-  -- it does where no reason applies to it, and only there
+  -- so where no reason applies to it, and only there
   none-meets : NoneOf (itemReasons f ws vs k) → Meeting
-  none-meets = meets-row (rowOf f (getD ws here 0)) refl
+  none-meets u = fault-meets (rowOf f (getD ws here 0)) refl (fault-number f ws vs k (few f ws vs k u) ∙ none-number _ u)
 
   meets-none : k < itemLimit → length (verdictOf f ws vs (history f ws k)) ≡ verdictSize → Meeting → NoneOf (itemReasons f ws vs k)
-  unfolding any itemReasons listedWith itemAt checks
+  unfolding itemAt
   meets-none small long (fit, m) =
-      rw (m .listed .found) (simp (neither, not-not) (omega (arith, tests), (tt, (m .counted, (omega (arith, tests), met f _ _ (itemAt f ws here) m long)))))
+      let passes : fault f ws vs (history f ws k) here ≡ noFault = rw (m .listed .found) (item-step f ws vs 0 (history f ws k) here m fit long) in
+      by-first (itemReasons f ws vs k) (λ u. u)
+      (λ n s. absurd (some-number f ws vs k s (sym (first-number s) ∙ sym (fault-number f ws vs k small) ∙ passes)))
 
   -- the first k items are in the words, and meet the rules
   abbrev Passing : Type 0

@@ -20,7 +20,7 @@ use Rattle.model.proofs.Tests.{tests, by-if, if-no, if-yes, neither, or
 use Rattle.model.proofs.Acceptance.{accepted↔sound}
 use Rattle.model.proofs.Ancestry.{ancestry-line, line-length}
 use Rattle.model.proofs.Tables.{length-filled, getD-filled}
-use Rattle.model.proofs.Report.{Numbered, audit-numbered, filled-rows, filled-rest, table-keeps, table-unchanged, table-zero, tables-keep}
+use Rattle.model.proofs.Report.{Numbered, audit-numbered, filled-rows, filled-rest, table-keeps, table-unchanged, table-zero, table-filled, tables-keep}
 
 -- ---- the audit of this entry: 1, then 2 for any of the three buffers, then the rest
 
@@ -117,12 +117,17 @@ line-last (climbs l r) (suc n) e = line-last r n (omega arith)
 module _ (h : History) (k : ℕ) (s : List ℕ) where
   -- zero under 19
   list-zero : T (outside k (length h)) → listAfter (accepted h) k s ≡ replicate (length s) 0
-  unfolding tableAfter written filled
-  list-zero t = rw (if-yes (outside k (length h)) [] (ancestry h k) t, sub-zero)
+  unfolding written filled
+  list-zero t =
+      table-filled (accepted h) (written k) s refl
+      ∙ ap (filled (length s)) (if-yes (outside k (length h)) [] (ancestry h k) t)
+      ∙ ap (λ n. replicate n 0) (sub-zero (length s))
 
   list-written : 1 ≤ k → k ≤ length h → listAfter (accepted h) k s ≡ filled (length s) (ancestry h k)
-  unfolding tableAfter written
-  list-written one all = ap (filled (length s)) (if-no (outside k (length h)) _ _ (simp neither (omega (arith, tests))))
+  unfolding written
+  list-written one all =
+      table-filled (accepted h) (written k) s refl
+      ∙ ap (filled (length s)) (if-no (outside k (length h)) _ _ (simp neither (omega (arith, tests))))
 
 module _ {f : Format} {ws vs : List ℕ} {h : History} (p : Passed f ws vs h) (k : ℕ) (one : 1 ≤ k) (all : k ≤ length h) (s : List ℕ)
     (long : length h ≤ length s) where

@@ -91,6 +91,12 @@ module _ (f : Format) (ws vs : List ℕ) (room : ℕ) (least : leastItem ≤ ite
   unfolding audit
   audit-cut index = rw (items-cut itemLimit [] 0 (omega arith))
 
+-- the board's words too
+both-cut : (f : Format) (ws vs : List ℕ) → leastItem ≤ itemLength f 0 → length ws ≤ programLimit
+    → audit f (take programLimit ws) (take verdictLimit vs) indexNeed ballotNeed ≡ audit f ws vs indexNeed ballotNeed
+both-cut f ws vs least short =
+    ap (λ us. audit f us (take verdictLimit vs) indexNeed ballotNeed) (take-all programLimit ws short) ∙ audit-cut f ws vs ballotNeed least short indexNeed
+
 -- ---- the base's format
 
 pub base-least : (sha256 : List ℕ → List ℕ) → leastItem ≤ itemLength (secp256r1 sha256) 0
@@ -117,14 +123,6 @@ length-from-bytes (a ∷ b ∷ []) = refl
 length-from-bytes (a ∷ []) = refl
 length-from-bytes [] = refl
 
--- sizes without a fault
-size-fine : (board verdicts : ℕ) → sizeFault board verdicts ≡ 0 → board / bytesPerWord ≤ programLimit
-unfolding sizeFault
-size-fine board verdicts e =
-    by-if (λ n. n ≡ 0 → board / bytesPerWord ≤ programLimit) (not (isWhole board) || not (isWhole verdicts)) _ _ (λ t q. absurd (omega arith))
-    (λ t. by-if (λ n. n ≡ 0 → board / bytesPerWord ≤ programLimit) (ltb programLimit (board / bytesPerWord)) _ _ (λ u q. absurd (omega arith)) (λ u q. omega (arith, tests)))
-    e
-
 size-odd : (board verdicts : ℕ) → T (not (isWhole board) || not (isWhole verdicts)) → sizeFault board verdicts ≡ truncated
 unfolding sizeFault
 size-odd board verdicts t = if-yes (not (isWhole board) || not (isWhole verdicts)) _ _ t
@@ -134,6 +132,14 @@ unfolding sizeFault
 size-over board verdicts b v l =
     if-no (not (isWhole board) || not (isWhole verdicts)) _ _ (simp (neither, not-not) (b, v))
     ∙ if-yes (ltb programLimit (board / bytesPerWord)) _ _ (omega (arith, tests))
+
+-- sizes without a fault
+size-fine : (board verdicts : ℕ) → sizeFault board verdicts ≡ 0 → board / bytesPerWord ≤ programLimit
+unfolding sizeFault
+size-fine board verdicts e =
+    by-if (λ n. n ≡ 0 → board / bytesPerWord ≤ programLimit) (not (isWhole board) || not (isWhole verdicts)) _ _ (λ t q. absurd (omega arith))
+    (λ t. by-if (λ n. n ≡ 0 → board / bytesPerWord ≤ programLimit) (ltb programLimit (board / bytesPerWord)) _ _ (λ u q. absurd (omega arith)) (λ u q. omega (arith, tests)))
+    e
 
 size-zero : (board verdicts : ℕ) → T (isWhole board) → T (isWhole verdicts) → board / bytesPerWord ≤ programLimit → sizeFault board verdicts ≡ 0
 unfolding sizeFault
@@ -153,9 +159,8 @@ module _ (f : Format) (board verdicts : List ℕ) where
       ≡ filesOutcome f board verdicts
   unfolding filesOutcome
   files-cut least =
-      sized-cut (sizeFault (length board) (length verdicts)) _ _ λ e.
-      let short : length (fromBytes board) ≤ programLimit = rw length-from-bytes (size-fine (length board) (length verdicts) e) in
-      rw (take-all programLimit (fromBytes board) short) (audit-cut f (fromBytes board) (fromBytes verdicts) ballotNeed least short indexNeed)
+      sized-cut (sizeFault (length board) (length verdicts)) _ _
+      (λ e. both-cut f (fromBytes board) (fromBytes verdicts) least (rw length-from-bytes (size-fine (length board) (length verdicts) e)))
 
   -- "if either file's byte count isn't a multiple of 4, it is refused as 4 with 0", whatever else is wrong
   pub odd-size : T (not (isWhole (length board)) || not (isWhole (length verdicts))) → printed f board verdicts ≡ refusedLine truncated 0

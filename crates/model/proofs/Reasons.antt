@@ -46,15 +46,15 @@ module _ (f : Format) (ws vs : List ℕ) (k : ℕ) where
   full-number : itemLimit ≤ k → firstNumber (itemReasons f ws vs k) ≡ tooLarge
   full-number l = by-row _ refl ∙ if-yes (leb itemLimit k) _ _ (omega (arith, tests))
 
-  fault-number : k < itemLimit → fault f ws vs (history f ws k) (placeOf f ws k) ≡ firstNumber (itemReasons f ws vs k)
+  pub fault-number : k < itemLimit → fault f ws vs (history f ws k) (placeOf f ws k) ≡ firstNumber (itemReasons f ws vs k)
   fault-number l = sym (by-row _ refl ∙ if-no (leb itemLimit k) _ _ (omega (arith, tests)))
 
-  few : NoneOf (itemReasons f ws vs k) → k < itemLimit
+  pub few : NoneOf (itemReasons f ws vs k) → k < itemLimit
   unfolding itemReasons any
   few u = omega (arith, tests, simp neither at u .0)
 
   -- no item has the number 0 for a refusal
-  some-number : {n : ℕ} → FirstOf (itemReasons f ws vs k) n → n ≢ noFault
+  pub some-number : {n : ℕ} → FirstOf (itemReasons f ws vs k) n → n ≢ noFault
   unfolding itemReasons
   some-number s = every-first (λ n. n ≢ noFault) (omega arith) s
 

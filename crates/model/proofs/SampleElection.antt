@@ -1,28 +1,31 @@
 -- A whole election under a toy hash, found sound by computing its audit: a spoiled ballot with its hidden track, a counted ballot, and the
 -- extraction. So what is proved of sound boards is proved of boards that have all of that. Assumes nothing.
-use Prim.Native.Nat.{ℕ, _-_}
-use mathlib.Core.Path.{_≡_, refl}
+use Prim.Native.Nat.{ℕ, _-_, _≤_}
+use native.Mathlib.Omega.{arith}
+use mathlib.Core.Path.{_≡_, refl, ap, _∙_}
 use mathlib.Core.List.{List, [], _∷_, _++_}
 use lib.ListN.{length, replicate, getD}
+use lib.Dec.{lit≤}
 use lib.Count.{onesIn}
 use Rattle.model.specs.Lists.{if_then_else_, _⇒_, part, any, count, keep, latest}
 use Rattle.model.specs.Words.{kindOf, codeOf, countOf, sameWords, pair, closingWord, lowZero, member, everyBelow, allIn}
 use Rattle.model.specs.Format.{Format, secp256r1, keySize}
 use Rattle.model.specs.Item.{Item, itemLength, itemAt, hashed, wordsOf}
 use Rattle.model.specs.Types.{rowOf, rowIn, table, fits}
-use Rattle.model.specs.History.{entry, firstFrom, lastFrom, mainItem, endAfter, endAddress, parentNumber, sessionNumber, entryOf, placeOf, history}
-use Rattle.model.specs.Counted.{voteOf, counted, contents, totalWeight}
+use Rattle.model.specs.History.{History, main, entry, firstFrom, lastFrom, mainItem, endAfter, endAddress, parentNumber, sessionNumber, entryOf, placeOf, history}
+use Rattle.model.specs.Counted.{Vote, voteOf, counted, contents, totalWeight}
 use Rattle.model.specs.Links.{addressOk, previousOk, parentOk, timeOk}
 use Rattle.model.specs.Phase.{rounds, isOpen, extractionOk, openOk, standingOk, latestOk, intentOk, phaseOk}
 use Rattle.model.specs.Only.{onBoardOk, underParentOk, underBallotOk, onlyOk}
 use Rattle.model.specs.Content.{contestsOk, mayVote, cryptogramsOk, contestOk, thresholdOk, authorizerOk, roundOk, sessionOk, commitmentOk, ballotOk, fingerprintOk, trusteesOk, contentOk}
 use Rattle.model.specs.Keys.{opening, keyOf, goodVerdict, verdictOk, keyOk, signatureOk}
-use Rattle.model.specs.Audit.{accepted, firstUnmet, checks, faultIn, closing, judged, wordAt, items, audit, indexNeed, ballotNeed}
+use Rattle.model.specs.Audit.{Outcome, unread, refused, accepted, firstUnmet, checks, faultIn, closing, judged, wordAt, items, audit, indexNeed, ballotNeed}
 use Rattle.model.specs.Report.{reportOf, ballotRows}
 use Rattle.model.specs.Sound.{Sound}
 use Rattle.model.specs.Ancestry.{upTo, ancestry}
 use Rattle.model.specs.Program.{digits, spaced, acceptedLine, rowLines, textOf}
 use Rattle.model.proofs.Acceptance.{accepted↔sound}
+use Rattle.model.proofs.Unchecked.{length-history, accepted-history}
 
 -- the last word, eight times over: of an item's hashed words that is the low word of its time
 abbrev toy : Format
@@ -96,22 +99,71 @@ board = wordsIn election ++ (closingWord 21 ∷ [])
 abbrev pub verdicts : List ℕ
 verdicts = verdictsIn election
 
+-- how many items an accepted board has
+items-in : Outcome → ℕ
+items-in (unread n) = 0
+items-in (refused n k) = 0
+items-in (accepted h) = length h
+
+all-accepted : items-in (audit toy board verdicts indexNeed ballotNeed) ≡ 21
+unfolding election wordsIn verdictsIn wordsOf hashed if_then_else_ _⇒_ part any count keep latest onesIn kindOf codeOf countOf sameWords pair lowZero member everyBelow allIn itemLength itemAt rowOf rowIn table fits entry firstFrom lastFrom mainItem endAfter endAddress parentNumber sessionNumber entryOf placeOf history voteOf counted contents addressOk previousOk parentOk timeOk rounds isOpen extractionOk openOk standingOk latestOk intentOk phaseOk onBoardOk underParentOk underBallotOk onlyOk contestsOk mayVote cryptogramsOk contestOk thresholdOk authorizerOk roundOk sessionOk commitmentOk ballotOk fingerprintOk trusteesOk contentOk opening keyOf verdictOk keyOk signatureOk firstUnmet checks faultIn closing judged wordAt items audit items-in
+all-accepted = refl
+
+-- so it is accepted, with its first items
+accepted-by : (f : Format) (ws vs : List ℕ) (index ballots n : ℕ) (o : Outcome) → audit f ws vs index ballots ≡ o → items-in o ≡ n → 1 ≤ n
+    → o ≡ accepted (history f ws n)
+unfolding items-in
+accepted-by f ws vs index ballots n (unread m) q e l = absurd (omega arith)
+accepted-by f ws vs index ballots n (refused m k) q e l = absurd (omega arith)
+accepted-by f ws vs index ballots n (accepted h) q e l = ap accepted (accepted-history f ws vs index ballots h q ∙ ap (history f ws) e)
+
 pub is-accepted : audit toy board verdicts indexNeed ballotNeed ≡ accepted (history toy board 21)
-unfolding election wordsIn verdictsIn wordsOf hashed if_then_else_ _⇒_ part any count keep latest onesIn kindOf codeOf countOf sameWords pair lowZero member everyBelow allIn itemLength itemAt rowOf rowIn table fits entry firstFrom lastFrom mainItem endAfter endAddress parentNumber sessionNumber entryOf placeOf history voteOf counted contents addressOk previousOk parentOk timeOk rounds isOpen extractionOk openOk standingOk latestOk intentOk phaseOk onBoardOk underParentOk underBallotOk onlyOk contestsOk mayVote cryptogramsOk contestOk thresholdOk authorizerOk roundOk sessionOk commitmentOk ballotOk fingerprintOk trusteesOk contentOk opening keyOf verdictOk keyOk signatureOk firstUnmet checks faultIn closing judged wordAt items audit
-is-accepted = refl
+is-accepted = accepted-by toy board verdicts indexNeed ballotNeed 21 _ refl all-accepted (lit≤ tt)
 
 pub is-sound : Sound toy board verdicts (history toy board 21)
 is-sound = accepted↔sound toy board verdicts indexNeed ballotNeed (history toy board 21) .0 is-accepted .0
 
--- 21 items, 17 of them main, and one ballot of weight 5: main item 13, of voter 9
+-- ---- what its history gives, computed once
+
+abbrev past : History
+past = history toy board 21
+
+-- 17 of the items are main
+mains : count main past ≡ 17
+unfolding election wordsIn wordsOf hashed if_then_else_ part count kindOf countOf itemLength itemAt entryOf placeOf history
+mains = refl
+
+end : endAddress toy past ≡ replicate 8 21
+unfolding election wordsIn wordsOf hashed if_then_else_ part keep kindOf countOf itemLength itemAt mainItem endAfter endAddress entryOf placeOf history
+end = refl
+
+-- one ballot of weight 5: main item 13, of voter 9
+abbrev vote : Vote
+vote = record { ballot = 13; voter = 9; weight = 5; content = 1 ∷ replicate 16 6 ++ (0x80000 ∷ []) }
+
+votes : counted past ≡ vote ∷ []
+unfolding election wordsIn wordsOf hashed if_then_else_ part any count keep latest kindOf codeOf countOf sameWords itemLength itemAt entry firstFrom parentNumber sessionNumber entryOf placeOf history voteOf counted
+votes = refl
+
+-- what is reported and printed of a history with so many items and main items, this end address and these counted ballots
+module _ (h : History) {n m : ℕ} {xs : List Vote} (items : length h ≡ n) (mains : count main h ≡ m) (votes : counted h ≡ xs) where
+  report-by : (f : Format) {a : List ℕ} → endAddress f h ≡ a
+      → reportOf f (accepted h) ≡ record { number = 0; items = n; mains = m; end = a; ballots = length xs; weight = totalWeight xs }
+  unfolding reportOf
+  report-by f end = λ i. record { number = 0; items = items i; mains = mains i; end = end i; ballots = length (votes i); weight = totalWeight (votes i) }
+
+  text-by : textOf (accepted h) ≡ acceptedLine n m (length xs) (totalWeight xs) ++ rowLines (ballotRows xs)
+  unfolding textOf
+  text-by = λ i. acceptedLine (items i) (mains i) (length (votes i)) (totalWeight (votes i)) ++ rowLines (ballotRows (votes i))
+
 pub is-reported : reportOf toy (accepted (history toy board 21))
     ≡ record { number = 0; items = 21; mains = 17; end = replicate 8 21; ballots = 1; weight = 5 }
-unfolding election wordsIn wordsOf hashed if_then_else_ part any count keep latest kindOf codeOf countOf sameWords itemLength itemAt entry firstFrom mainItem endAfter endAddress parentNumber sessionNumber entryOf placeOf history voteOf counted totalWeight reportOf
-is-reported = refl
+unfolding totalWeight
+is-reported = report-by past (length-history toy board 21) mains votes toy end
 
 pub ballot-row : ballotRows (counted (history toy board 21)) ≡ 13 ∷ 9 ∷ 5 ∷ []
-unfolding election wordsIn wordsOf hashed if_then_else_ part any count keep latest kindOf codeOf countOf sameWords itemLength itemAt entry firstFrom parentNumber sessionNumber entryOf placeOf history voteOf counted ballotRows
-ballot-row = refl
+unfolding ballotRows
+ballot-row = ap ballotRows votes
 
 -- the spoiled ballot's hidden track: items 10, 11, 13 and 14 lead up to it, and the ballot to its session and genesis
 pub track : ancestry (history toy board 21) 14 ≡ 14 ∷ 13 ∷ 11 ∷ 10 ∷ 9 ∷ 8 ∷ 7 ∷ 6 ∷ 5 ∷ 4 ∷ 3 ∷ 2 ∷ 1 ∷ []
@@ -121,5 +173,5 @@ track = refl
 -- `accepted 21 17 1 5` and `13 9 5`
 pub text : textOf (accepted (history toy board 21))
     ≡ 97 ∷ 99 ∷ 99 ∷ 101 ∷ 112 ∷ 116 ∷ 101 ∷ 100 ∷ 32 ∷ 50 ∷ 49 ∷ 32 ∷ 49 ∷ 55 ∷ 32 ∷ 49 ∷ 32 ∷ 53 ∷ 10 ∷ 49 ∷ 51 ∷ 32 ∷ 57 ∷ 32 ∷ 53 ∷ 10 ∷ []
-unfolding election wordsIn wordsOf hashed if_then_else_ part any count keep latest kindOf codeOf countOf sameWords itemLength itemAt entry firstFrom parentNumber sessionNumber entryOf placeOf history voteOf counted totalWeight ballotRows textOf acceptedLine rowLines spaced digits
-text = refl
+unfolding totalWeight ballotRows acceptedLine rowLines spaced digits if_then_else_
+text = text-by past (length-history toy board 21) mains votes
