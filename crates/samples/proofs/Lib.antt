@@ -1,2 +1,4 @@
--- The paper's samples.
+-- The paper's samples, and sound boards: the claims are not empty.
 pub mod Samples
+pub mod SampleBoard
+pub mod SampleElection
