@@ -13,7 +13,7 @@ use Rattle.model.specs.Refusal.{tooLarge, shortTable}
 use Rattle.model.specs.History.{History}
 use Rattle.model.specs.Audit.{Outcome, unread, refused, accepted, audit, wordLimit, indexNeed, ballotNeed, isShort, isEmpty}
 use Rattle.model.specs.Report.{tableAfter, indexAfter, ballotsAfter}
-use Rattle.model.specs.Ancestry.{listNeed, ancestryAudit, AncestryAnswer, unlisted, ancestryAnswer, written, listAfter}
+use Rattle.model.specs.Ancestry.{listNeed, ancestryAudit, AncestryAnswer, unlisted, ancestryAnswer, listAfter}
 use Rattle.model.specs.Reasons.{startReasons}
 use Rattle.model.proofs.Tests.{by-test, tests, neither, passes}
 use Rattle.model.proofs.Acceptance.{unread-number}
@@ -21,7 +21,6 @@ use Rattle.model.proofs.FirstReason.{firstNumber, first-number}
 use Rattle.model.proofs.ByNumber.{unread-reason}
 use Rattle.model.proofs.Listing.{too-large, short-buffer, as-audited}
 use Rattle.format.specs.Base.{base}
-use Rattle.index.specs.Kept.{before}
 use Rattle.audit.proofs.Laws.{RefusedAs, unchanged, cleared}
 use Rattle.entries.specs.Listing.{Sized}
 

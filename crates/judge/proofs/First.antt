@@ -20,7 +20,7 @@ use Rattle.model.specs.Keys.{keyOf, verdictOk, keyOk, signatureOk}
 use Rattle.model.specs.Audit.{Check, firstUnmet, checks}
 use Rattle.model.proofs.Tests.{by-test}
 use Rattle.model.proofs.Checks.{Numbers}
-use Rattle.refusal.specs.Number.{numberOf, foundOf}
+use Rattle.refusal.specs.Number.{foundOf}
 use Rattle.refusal.specs.declared.Refusal.{Refusal}
 use Rattle.refusal.proofs.Laws.{number-some}
 use Rattle.refusal.specs.declared.Finding.{Finding}

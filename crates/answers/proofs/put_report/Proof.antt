@@ -1,7 +1,6 @@
 -- `put_report` meets its contract: the words before the end address, and behind them the end address. Assumes nothing.
 use mathlib.Core.Path.{_≡_}
 use lib.ListN.{length}
-use native.Mathlib.Omega.{arith}
 use Rattle.answers.proofs.Laws.{report-put}
 use borrow.Author.Needs.{needs}
 use Rattle.answers.proofs.put_report.Statement.{statement}
