@@ -17,7 +17,7 @@ use Rattle.model.specs.History.{History, itemNo}
 use Rattle.model.specs.Counted.{counted, contents}
 use Rattle.model.specs.Content.{fingerprintOk, trusteesOk}
 use Rattle.model.proofs.Sets.{size-ones}
-use Rattle.sha256.specs.Fips.{sha256Words}
+use Rattle.sha256_block.specs.Fips.{sha256Words}
 use Rattle.format.specs.Base.{base}
 use Rattle.index.specs.declared.Known.{Known}
 use Rattle.index.specs.Kept.{before, itemAfter}

@@ -19,7 +19,7 @@ use Rattle.model.specs.History.{Entry, entry, itemNo}
 use Rattle.model.proofs.Tests.{by-test}
 use Rattle.model.proofs.Table.{main-code, genesis-law, asksNone}
 use Rattle.model.proofs.Numbers.{entry-none}
-use Rattle.sha256.specs.Fips.{sha256Words}
+use Rattle.sha256_block.specs.Fips.{sha256Words}
 use Rattle.format.specs.Base.{base}
 use Rattle.format.specs.Layout.{itemOf}
 use Rattle.format.specs.declared.item.Item.{Item}

@@ -14,7 +14,7 @@ use Rattle.model.specs.Report.{Report, reportOf, ballotsAfter}
 use Rattle.model.specs.Program.{fromBytes, bytesPerWord, programLimit, verdictLimit, textOf, sized, programOutcome, printed}
 use Rattle.model.proofs.Report.{audit-numbered}
 use Rattle.model.proofs.Votes.{counted-few}
-use Rattle.sha256.specs.Fips.{sha256Words}
+use Rattle.sha256_block.specs.Fips.{sha256Words}
 use Rattle.model.proofs.Acceptance.{accepted↔sound}
 use Rattle.model.proofs.Program.{length-from-bytes, base-least}
 use Rattle.format.specs.Base.{base}

@@ -4,7 +4,7 @@ use Prim.Native.Nat.{ℕ, _/_}
 use mathlib.Core.Path.{_≡_, refl}
 use mathlib.Core.List.{List, [], _∷_, _++_, map, map-append}
 use lib.ListN.{length, replicate}
-use Rattle.sha256.specs.Fips.{zeroBits, lengthField, padding, padded, sha256Words}
+use Rattle.sha256_block.specs.Fips.{zeroBits, lengthField, padding, padded, sha256Words}
 use Rattle.model.specs.Item.{hashed}
 use Rattle.model.proofs.SampleTable.{item, Sample, _gives_, samples, samples-hold}
 

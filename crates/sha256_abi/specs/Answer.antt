@@ -5,7 +5,7 @@ use Prim.Native.Nat.{ℕ, _^_}
 use mathlib.Core.List.{List}
 use lib.Dec.{ltb}
 use lib.ListN.{length}
-use Rattle.sha256.specs.Fips.{sha256Words}
+use Rattle.sha256_block.specs.Fips.{sha256Words}
 
 -- FIPS 180-4, 1: a message has less than 2 ^ 64 bits
 abbrev pub short : List ℕ → Bool

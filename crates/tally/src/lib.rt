@@ -7,7 +7,7 @@ ghost use lib.Dec.{T};
 ghost use Rattle.model.specs.History.{entry, main, mainNumber};
 ghost use Rattle.model.specs.Counted.{Vote, counted, contents, totalWeight};
 ghost use Rattle.model.specs.Audit.{ballotRow, itemLimit};
-ghost use Rattle.sha256.specs.Fips.{sha256Words};
+ghost use Rattle.sha256_block.specs.Fips.{sha256Words};
 ghost use Rattle.index.specs.Kept.{before, Kept};
 ghost use Rattle.index.specs.Known.{Passing};
 ghost use Rattle.state.specs.Stands.{Stands};

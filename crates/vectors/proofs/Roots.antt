@@ -3,7 +3,7 @@
 use mathlib.Core.Path.{_≡_, refl}
 use mathlib.Core.Bool.{true}
 use lib.ListN.{length}
-use Rattle.sha256.specs.Fips.{K, H0}
+use Rattle.sha256_block.specs.Fips.{K, H0}
 use Rattle.vectors.specs.Roots.{primes, isRoot, hasRoot, haveRoots}
 
 pub K-cube-roots : (length K ≡ 64) × (haveRoots 3 primes K ≡ true)

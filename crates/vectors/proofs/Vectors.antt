@@ -1,8 +1,8 @@
 -- Vectors of FIPS 180-4 and of the CAVP, of one block each, as one theorem about the definitions: computed, step by step.
 use mathlib.Core.Path.{_≡_, refl}
 use mathlib.Core.List.{[], _∷_}
-use Rattle.sha256.specs.Fips.{bigSigma0, bigSigma1, smallSigma0, smallSigma1, K, toBytes, toWords, zeroBits, lengthField, bytePadding}
-use Rattle.sha256.specs.Fips.{H0, messageWord, schedule, t1, t2, round, rounds, intermediate, compress, hashValue, sha256, padding, sha256Words}
+use Rattle.sha256_block.specs.Fips.{bigSigma0, bigSigma1, smallSigma0, smallSigma1, K, toBytes, toWords, zeroBits, lengthField, bytePadding}
+use Rattle.sha256_block.specs.Fips.{H0, messageWord, schedule, t1, t2, round, rounds, intermediate, compress, hashValue, sha256, padding, sha256Words}
 
 -- the message of no bytes; "abc"; 32 bits of the CAVP, as a message of one word
 pub vectors

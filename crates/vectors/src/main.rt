@@ -7,7 +7,7 @@ use sha256::Hash;
 ghost use mathlib.Core.Path.{_≡_};
 ghost use Prim.Native.Nat.{_≤_};
 ghost use lib.ListN.{replicate};
-ghost use Rattle.sha256.specs.Fips.{sha256Words};
+ghost use Rattle.sha256_block.specs.Fips.{sha256Words};
 ghost use Rattle.vectors.specs.Messages.{counting};
 
 // The end of a line: the digest, in hexadecimal.

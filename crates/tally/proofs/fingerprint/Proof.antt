@@ -97,9 +97,9 @@ loop-again c =
     let e = c .before .before .before .entry in
     let size = content-few (e .ensures) in (
       omega arith,
-      omega (arith, c .words .ensures .count, l .inv .1),
+      omega (arith, c .words .ensures .0 .count, l .inv .1),
       message-more (p .0) (p .1) (p .2) (l .k) more (item .main-entry .result) (found item) (e .result) (e .ensures) (l .hash) (c .words .result)
-          (c .words .ensures) (l .inv .2),
+          (c .words .ensures .0) (l .inv .2),
     )
 
 finish-requires : tie.Need-finish-requires Inv-loop μ-loop

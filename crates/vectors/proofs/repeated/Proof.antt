@@ -24,7 +24,7 @@ loop-again c =
     let w = c .before .before .before .before .args .w in (
       omega arith,
       omega arith,
-      subst (λ (m : List ℕ). Holds (c .word .result) m) (replicate-append-replicate (l .i) 1 w) (c .word .ensures .holds _ (l .inv .2)),
+      subst (λ (m : List ℕ). Holds (c .word .result) m) (replicate-append-replicate (l .i) 1 w) (c .word .ensures .0 .holds _ (l .inv .2)),
     )
 
 returns : tie.Need-returns Inv-loop μ-loop

@@ -1,0 +1,4 @@
+pub mod Rounds
+pub mod Forms
+pub mod Padding
+pub mod Agree
