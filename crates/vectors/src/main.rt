@@ -6,9 +6,9 @@ use libc::STDOUT_FILENO;
 use sha256::Hash;
 ghost use mathlib.Core.Path.{_≡_};
 ghost use Prim.Native.Nat.{_≤_};
-ghost use lib.ListN.{replicate};
+ghost use lib.ListN.{length, replicate};
 ghost use Rattle.sha256_block.specs.Fips.{sha256Words};
-ghost use Rattle.vectors.specs.Messages.{counting};
+ghost use Rattle.vectors.specs.Messages.{counting, within};
 
 // The end of a line: the digest, in hexadecimal.
 fn end_line(digest: [u32; 8]) {
@@ -41,6 +41,39 @@ fn repeated(w: u32, n: usize) -> [u32; 8]
     h.finish()
 }
 
+// A place to cut at: c, but no earlier than from and no later than end.
+fn within(c: usize, from: usize, end: usize) -> usize
+    requires { ⌜ from ≤ end ⌝ }
+    ensures { λ r. ⌜ (r ≡ within c from end) × (from ≤ r) × (r ≤ end) ⌝ }
+{
+    if c < from {
+        return from;
+    }
+    if end < c {
+        return end;
+    }
+    c
+}
+
+// The digest of the words fed in pieces, cut at the places given, in their order. A place that is not behind the one before it makes an
+// empty piece, and so does one past the end. Whatever the places, the digest is the same.
+fn in_pieces(words: &[u32], places: &[usize]) -> [u32; 8]
+    requires { do ⌜ length (now words) ≤ (← ⟦Hash::LIMIT⟧) ⌝ }
+    ensures { λ r. ⌜ r ≡ sha256Words (now (words .entry)) ⌝ }
+{
+    let mut h = Hash::new();
+    let mut from: usize = 0;
+    let mut i: usize = 0;
+    while i < places.len() {
+        let to = within(places[i], from, words.len());
+        h = h.words(&words[from..to]);
+        from = to;
+        i += 1;
+    }
+    h = h.words(&words[from..]);
+    h.finish()
+}
+
 // The words whose bytes count up from 0: 33 of them, one more than two blocks hold.
 fn counting_words() -> [u32; 33]
     ensures { λ r. ⌜ r ≡ counting 33 ⌝ }
@@ -62,6 +95,18 @@ fn show_counting() {
         io::print_decimal(STDOUT_FILENO, n as u64);
         end_line(sha256::digest(&m[..n]));
         n += 1;
+    }
+}
+
+// A line for each place to cut all 33 words at: up to there, nothing, 16 words, and the rest.
+fn show_pieces() {
+    let m = counting_words();
+    let mut at: usize = 0;
+    while at <= 33 {
+        io::write_all(STDOUT_FILENO, b"cut-");
+        io::print_decimal(STDOUT_FILENO, at as u64);
+        end_line(in_pieces(&m, &[at, at, at + 16]));
+        at += 1;
     }
 }
 
@@ -89,4 +134,5 @@ fn main() {
     show_examples();
     show_repeated();
     show_counting();
+    show_pieces();
 }
