@@ -1,5 +1,5 @@
 /* Times the proved SHA-256 beside others on the same words: best of many runs, and each one's time over plain C's.
-   Ends with status 1 where two digests differ, or where the proved code misses the bar on the long message. */
+   Ends with status 1 where two digests differ, or where the proved code misses the bar of a message. */
 #define _POSIX_C_SOURCE 199309L
 #define OPENSSL_SUPPRESS_DEPRECATED
 #include <stdbool.h>
@@ -15,9 +15,6 @@
 #endif
 
 enum { RUNS = 100 };
-
-/* the most time that the proved code may take on the long message, over plain C's */
-static const double BAR = 1.05;
 
 /* A message as words and as bytes: each contender takes it in the form that its library is made for. */
 struct message {
@@ -92,6 +89,22 @@ static struct contender all[] = {
 };
 enum { CONTENDERS = sizeof all / sizeof all[0] };
 
+/* A message, how often it is hashed in a run, and the most time that the proved code may take on it, over plain C's. */
+struct row {
+    const char *title;
+    size_t count;
+    int times;
+    double bar;
+};
+
+/* An item's address is the hash of its words up to its signature: 19 and its content. */
+static const struct row rows[] = {
+    {"1 MiB", 262144, 1, 0.80},
+    {"200 bytes", 50, 2000, 0.85},
+    {"an item's address, 30 words", 30, 2000, 0.85},
+    {"a ballot's address, one contest, 37 words", 37, 2000, 0.85},
+};
+
 /* The processor's time and not the clock's, so that other programs on the machine count little. */
 static double now(void)
 {
@@ -113,40 +126,42 @@ static struct message message_of(size_t count)
     return m;
 }
 
-/* The proved code's time over plain C's. The contenders take turns, so that a slow moment of the machine falls on all of them. */
-static double race(const char *title, size_t count, int times)
+/* Whether the proved code keeps within the message's bar. The contenders take turns, so that a slow moment of the machine falls on all. */
+static bool race(const struct row *row)
 {
-    struct message m = message_of(count);
+    struct message m = message_of(row->count);
     uint32_t digest[CONTENDERS][8];
     for (int c = 0; c < CONTENDERS; c++)
         all[c].best = 1e9;
     for (int run = 0; run < RUNS; run++)
         for (int c = 0; c < CONTENDERS; c++) {
             double start = now();
-            for (int k = 0; k < times; k++)
+            for (int k = 0; k < row->times; k++)
                 all[c].digest(&m, digest[c]);
-            double took = (now() - start) / times;
+            double took = (now() - start) / row->times;
             if (took < all[c].best)
                 all[c].best = took;
         }
-    printf("%s, best of %d runs\n", title, RUNS);
+    printf("%s, best of %d runs\n", row->title, RUNS);
     for (int c = 0; c < CONTENDERS; c++) {
         if (memcmp(digest[c], digest[0], sizeof digest[0]) != 0) {
             printf("%s and %s differ\n", all[c].name, all[0].name);
             exit(1);
         }
         printf("  %-20s %10.3f us  %7.1f MiB/s  %.2f of plain C's time\n", all[c].name, all[c].best * 1e6,
-               (double)count * 4 / all[c].best / 1048576, all[c].best / all[0].best);
+               (double)row->count * 4 / all[c].best / 1048576, all[c].best / all[0].best);
     }
     free(m.words);
     free(m.bytes);
-    return all[1].best / all[0].best;
+    double ratio = all[1].best / all[0].best;
+    printf("  %.2f of plain C's time, at most %.2f wanted: %s\n", ratio, row->bar, ratio <= row->bar ? "met" : "MISSED");
+    return ratio <= row->bar;
 }
 
 int main(void)
 {
-    double ratio = race("1 MiB", 262144, 1);
-    race("200 bytes", 50, 2000);
-    printf("1 MiB: %.2f of plain C's time, at most %.2f wanted: %s\n", ratio, BAR, ratio <= BAR ? "met" : "MISSED");
-    return ratio <= BAR ? 0 : 1;
+    bool met = true;
+    for (size_t i = 0; i < sizeof rows / sizeof rows[0]; i++)
+        met &= race(&rows[i]);
+    return met ? 0 : 1;
 }

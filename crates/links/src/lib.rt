@@ -19,7 +19,7 @@ use format::table::Row;
 use index::Known;
 use state::State;
 
-// 7 false address: whether the address is the hash of the item's hashed words.
+// 7 false address: whether the address is the hash of the item's hashed words, which are read where they stand on the board.
 pub fn address_ok(board: &[u32], item: Item) -> bool
     requires { ⌜ (item ≡ itemOf (now board) (item .place)) × (item .end ≤ length (now board)) ⌝ }
     ensures { λ r. ⌜ r ≡ addressOk base (itemAt base (now (board .entry)) (item .place)) ⌝ }

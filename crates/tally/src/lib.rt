@@ -53,7 +53,8 @@ pub fn after(board: &[u32], index: &[u32], ballots: &mut [u32], s: State, c: Kno
     kept + 1
 }
 
-// The fingerprint of the counted ballots: SHA-256 over their whole contents, read from the board in the order of the rows.
+// The fingerprint of the counted ballots: SHA-256 over their whole contents in the order of the rows, each a piece of the board that is
+// fed as it stands there.
 pub fn fingerprint(board: &[u32], index: &[u32], ballots: &[u32], s: State) -> [u32; 8]
     requires { ⌜ (Kept (now board) (now index) (s .items)) × (Stands (now board) s) × (Tallied (now board) (now ballots) (s .items)) ⌝ }
     ensures { λ r. ⌜ r ≡ sha256Words (contents (counted (before (now (board .entry)) (s .items)))) ⌝ }
