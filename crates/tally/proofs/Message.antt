@@ -23,7 +23,8 @@ use Rattle.model.specs.Report.{ballotRows}
 use Rattle.model.proofs.Unchecked.{length-history}
 use Rattle.model.proofs.Votes.{counted-few}
 use Rattle.sha256.specs.declared.Hash.{Hash}
-use Rattle.sha256.specs.State.{Holds, Fed}
+use Rattle.sha256.specs.State.{fed, Holds}
+use Rattle.sha256.proofs.Holds.{holds-fed}
 use Rattle.format.specs.Base.{base}
 use Rattle.format.specs.Layout.{itemOf}
 use Rattle.format.specs.declared.item.Item.{Item}
@@ -168,13 +169,13 @@ module _ {board index ballots : List ℕ} {s : State} (kept : Kept board index (
 
       -- the hash was fed one more content
       pub message-more : (e : Known) → IsKnown board (entry (before board (s .items)) item) e → (a b : Hash)
-          → Fed a b (take (e .item .parent - e .item .content) (drop (e .item .content) board))
+          → b ≡ fed a (take (e .item .parent - e .item .content) (drop (e .item .content) board))
           → Holds a (contents (take k (counted (before board (s .items))))) → Holds b (contents (take (k + 1) (counted (before board (s .items)))))
       unfolding vote
-      message-more e known a b fed h =
+      message-more e known a b next-hash h =
           let xs = counted (before board (s .items)) in
           let same : entry (before board (s .items)) item .item .content ≡ getD xs k none .content =
           ap (λ (m : ℕ). itemNo (before board (s .items)) m .content) (found ∙ ap (mainEntry (before board (s .items))) number-is) ∙ vote-found .content in
           let next : contents (take (k + 1) xs) ≡ contents (take k xs) ++ getD xs k none .content =
           rw (add-one k, take-suc xs k none (omega (arith, stands .ballots))) (contents-snoc (take k xs) (getD xs k none)) in
-          rw (next, ← same, ← content-slice known) (fed .holds (contents (take k xs)) h)
+          rw (next, ← same, ← content-slice known) (holds-fed (take (e .item .parent - e .item .content) (drop (e .item .content) board)) h next-hash)

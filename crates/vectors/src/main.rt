@@ -5,7 +5,7 @@ mod messages;
 use libc::STDOUT_FILENO;
 use sha256::Hash;
 ghost use mathlib.Core.Path.{_≡_};
-ghost use Prim.Native.Nat.{_≤_};
+ghost use Prim.Native.Nat.{_*_, _^_, _<_, _≤_};
 ghost use lib.ListN.{length, replicate};
 ghost use Rattle.sha256_block.specs.Fips.{sha256Words};
 ghost use Rattle.vectors.specs.Messages.{counting, within};
@@ -29,7 +29,7 @@ fn show(name: &[u8], digest: [u32; 8]) {
 
 // The digest of n times the word w, fed one at a time.
 fn repeated(w: u32, n: usize) -> [u32; 8]
-    requires { do ⌜ n ≤ (← ⟦Hash::LIMIT⟧) ⌝ }
+    requires { ⌜ n * 32 < 2 ^ 64 ⌝ }
     ensures { λ r. ⌜ r ≡ sha256Words (replicate n w) ⌝ }
 {
     let mut h = Hash::new();
@@ -55,10 +55,10 @@ fn within(c: usize, from: usize, end: usize) -> usize
     c
 }
 
-// The digest of the words fed in pieces, cut at the places given, in their order. A place that is not behind the one before it makes an
-// empty piece, and so does one past the end. Whatever the places, the digest is the same.
+// The digest of the words, fed in pieces: they are cut at the places given, in their order. A place that is not behind the one before it
+// makes an empty piece, and so does one past the end. Whatever the places, the digest is that of the words.
 fn in_pieces(words: &[u32], places: &[usize]) -> [u32; 8]
-    requires { do ⌜ length (now words) ≤ (← ⟦Hash::LIMIT⟧) ⌝ }
+    requires { ⌜ length (now words) * 32 < 2 ^ 64 ⌝ }
     ensures { λ r. ⌜ r ≡ sha256Words (now (words .entry)) ⌝ }
 {
     let mut h = Hash::new();
@@ -98,14 +98,14 @@ fn show_counting() {
     }
 }
 
-// A line for each place to cut all 33 words at: up to there, nothing, 16 words, and the rest.
+// A line for each place to cut all 33 words at: up to there, nothing, and the rest.
 fn show_pieces() {
     let m = counting_words();
     let mut at: usize = 0;
     while at <= 33 {
         io::write_all(STDOUT_FILENO, b"cut-");
         io::print_decimal(STDOUT_FILENO, at as u64);
-        end_line(in_pieces(&m, &[at, at, at + 16]));
+        end_line(in_pieces(&m, &[at, at]));
         at += 1;
     }
 }

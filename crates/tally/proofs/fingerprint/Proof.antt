@@ -7,6 +7,8 @@ use Rattle.lookup.specs.Search.{mainEntry}
 use Rattle.tally.proofs.Message.{rows-few, content-in, content-few, item-in, message-more, message-all}
 use Rattle.model.specs.Counted.{counted, contents}
 use Rattle.sha256.specs.State.{Holds}
+use Rattle.sha256.proofs.Feed.{fed-count}
+use Rattle.sha256.proofs.Holds.{fresh-count, holds-new, digest-held}
 use Rattle.index.specs.Kept.{before}
 use native.Mathlib.Omega.{arith}
 use borrow.Author.Needs.{needs}
@@ -35,7 +37,7 @@ new-requires c κs = search needs
 
 loop-holds : tie.Need-loop-holds Inv-loop μ-loop
 unfolding contents
-loop-holds c = (search needs, omega (arith, c .new .ensures .counted), c .new .ensures)
+loop-holds c = (search needs, omega (arith, fresh-count (c .new .ensures)), holds-new (c .new .ensures))
 
 mul-wide : tie.Need-mul-wide Inv-loop μ-loop
 mul-wide c = let f = few (c .before .before .before .before .before .before .before) in omega arith
@@ -97,9 +99,9 @@ loop-again c =
     let e = c .before .before .before .entry in
     let size = content-few (e .ensures) in (
       omega arith,
-      omega (arith, c .words .ensures .0 .count, l .inv .1),
+      omega (arith, fed-count (l .hash) _ (c .words .ensures), l .inv .1),
       message-more (p .0) (p .1) (p .2) (l .k) more (item .main-entry .result) (found item) (e .result) (e .ensures) (l .hash) (c .words .result)
-          (c .words .ensures .0) (l .inv .2),
+          (c .words .ensures) (l .inv .2),
     )
 
 finish-requires : tie.Need-finish-requires Inv-loop μ-loop
@@ -114,7 +116,7 @@ returns c =
     let start = c .before .before .before .before .before .before .before .before in
     let p = start .pre in
     let end : l .k ≡ start .args .s .ballots = omega arith in
-    c .finish .ensures _ (l .inv .2) ∙ rw (message-all (p .0) (p .1) (p .2) (l .k) end)
+    c .finish .ensures ∙ digest-held (l .inv .2) ∙ rw (message-all (p .0) (p .1) (p .2) (l .k) end)
 
 pub fingerprint-spec : {M : Type 1} → statement M
 fingerprint-spec =

@@ -1,13 +1,14 @@
 -- `in_pieces` meets its contract: the words up to `from` are fed.
 use mathlib.Core.Path.{_≡_, _∙_, subst}
-use Prim.Native.Nat.{ℕ, _+_, _-_, _≤_}
-use mathlib.Core.List.{List, _++_}
+use Prim.Native.Nat.{ℕ, _-_, _≤_}
+use mathlib.Core.List.{List}
 use native.Mathlib.Omega.{arith}
 use borrow.Author.Needs.{needs}
 use lib.ListN.{length, take, drop}
 use lib.Seq.{take-length}
 use Rattle.sha256.specs.State.{Holds}
-use Rattle.sha256.proofs.Feed.{length-part, take-more}
+use Rattle.sha256.proofs.Feed.{length-part, take-more, fed-count}
+use Rattle.sha256.proofs.Holds.{fresh-count, holds-new, holds-fed, digest-held}
 use Rattle.vectors.proofs.in_pieces.Statement.{statement}
 use Rattle.vectors.proofs.in_pieces.Tie as tie
 
@@ -18,7 +19,7 @@ abbrev μ-loop : tie.MeasureT-loop
 μ-loop words places h₀ from₀ i₀ h from i = length places - i
 
 loop-holds : tie.Need-loop-holds Inv-loop μ-loop
-loop-holds c = (omega arith, omega arith, c .new .ensures .counted, c .new .ensures)
+loop-holds c = (omega arith, omega arith, fresh-count (c .new .ensures), holds-new (c .new .ensures))
 
 words-requires : tie.Need-words-requires Inv-loop μ-loop
 words-requires c κs =
@@ -33,12 +34,12 @@ loop-again c =
     let words = c .before .before .before .before .before .before .before .before .before .args .words .now in
     let to = c .before .before .within .result in
     let n = length-part words (l .from) to (omega arith) in
-    let fed = c .words .ensures .0 in
-    let e = fed .count in (
+    let part = take (to - l .from) (drop (l .from) words) in
+    let e = fed-count (l .h) part (c .words .ensures) in (
       omega arith,
       omega arith,
       omega (arith, n, e),
-      subst (λ (m : List ℕ). Holds (c .words .result) m) (take-more words (l .from) to (omega arith)) (fed .holds _ (l .inv .3)),
+      subst (λ (m : List ℕ). Holds (c .words .result) m) (take-more words (l .from) to (omega arith)) (holds-fed part (l .inv .3) (c .words .ensures)),
     )
 
 words-requires-2 : tie.Need-words-requires-2 Inv-loop μ-loop
@@ -53,15 +54,16 @@ finish-requires c κs =
     let l = c .before .before .before .loop in
     let words = c .before .before .before .before .before .before .before .args .words .now in
     let n = length-part words (l .from) (length words) (omega arith) in
-    let e = c .words2 .ensures .0 .count in
+    let e = fed-count (l .h) (take (length words - l .from) (drop (l .from) words)) (c .words2 .ensures) in
     omega (arith, n, e)
 
 returns : tie.Need-returns Inv-loop μ-loop
 returns c =
     let l = c .before .before .before .before .loop in
     let words = c .before .before .before .before .before .before .before .before .args .words .now in
-    let all = c .before .words2 .ensures .0 .holds _ (l .inv .3) in
-    c .finish .ensures words
+    let all = holds-fed (take (length words - l .from) (drop (l .from) words)) (l .inv .3) (c .before .words2 .ensures) in
+    c .finish .ensures
+    ∙ digest-held
     (subst (λ (m : List ℕ). Holds (c .before .words2 .result) m) (take-more words (l .from) (length words) (omega arith) ∙ take-length words) all)
 
 pub in-pieces-spec : {M : Type 1} → statement M

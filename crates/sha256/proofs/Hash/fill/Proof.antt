@@ -1,11 +1,11 @@
--- `Hash::part` meets its contract: by whether the words fill the block.
+-- `Hash::fill` meets its contract: by whether the words fill the block.
 use mathlib.Core.Path.{_≡_}
 use native.Mathlib.Omega.{arith}
 use borrow.Author.Needs.{needs}
 use lib.ListN.{length}
-use Rattle.sha256.proofs.Feed.{hashFrom-stored, fed-room, fed-full}
-use Rattle.sha256.proofs.Hash.part.Statement.{statement}
-use Rattle.sha256.proofs.Hash.part.Tie as tie
+use Rattle.sha256.proofs.Feed.{fed-room, fed-full}
+use Rattle.sha256.proofs.Hash.fill.Statement.{statement}
+use Rattle.sha256.proofs.Hash.fill.Tie as tie
 
 sized : (s : tie.Start) → length (s .args .self .block) ≡ 16
 sized s = search needs
@@ -18,19 +18,17 @@ returns : tie.Need-returns
 returns c =
     let put = c .before .before .before .before .before .before .store in
     let s = c .before .before .before .before .before .before .before .before .before .before .before in
-    let a = s .args .self in
-    let full = c .before .before .before .if1 .taken in
-    let next = hashFrom-stored (a .chain) (a .block) _ (s .args .s .now) _ (sized s) (s .pre .0) (put .ensures) (c .compress-blocks .ensures) in
-    (fed-full a (s .args .s .now) _ _ (sized s) full (put .ensures) next, put .ensures)
+    fed-full
+    (s .args .self) (s .args .s .now) (sized s) _ (s .pre .0 .1) (put .ensures) (c .before .before .before .if1 .taken) (c .compress-blocks .ensures)
 
 returns-2 : tie.Need-returns-2
 returns-2 c =
     let put = c .before .before .before .store in
     let s = c .before .before .before .before .before .before .before .before in
-    (fed-room (s .args .self) (s .args .s .now) _ (sized s) (s .pre .0) (c .if1 .left) (put .ensures), put .ensures)
+    fed-room (s .args .self) (s .args .s .now) (sized s) _ (s .pre .0 .1) (put .ensures) (s .pre .0 .0) (c .if1 .left)
 
-pub part-spec : {M : Type 1} → statement M
-part-spec =
+pub fill-spec : {M : Type 1} → statement M
+fill-spec =
     tie.close
     (tie.spec
     (λ c. search needs) store-requires (λ c. search needs) (λ c. search needs) (λ c. search needs) (λ c κs. search needs) returns
