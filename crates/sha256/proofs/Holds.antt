@@ -1,32 +1,18 @@
 -- Laws of what a running hash stands for: nothing at first, more with each piece, and its digest is that of the message.
 use mathlib.Core.Path.{_≡_, refl, sym, ap, ap₂, _∙_, subst}
-use Prim.Native.Nat.{ℕ, zero, suc, _+_, _-_, _*_, _/_, _%_, _≤_, _<_}
+use Prim.Native.Nat.{ℕ, _+_, _-_, _*_, _/_, _%_, _≤_, _<_}
 use mathlib.Core.Logic.{_⊎_, inl, inr, ⊎-elim}
-use mathlib.Core.List.{List, [], _∷_, _++_}
+use mathlib.Core.List.{List, [], _++_}
 use native.Mathlib.Nat.{eq-or-lt-of-le, zero-add}
 use native.Mathlib.Omega.{arith}
 use lib.ListN.{length, take, drop, length-append, length-drop}
 use lib.Seq.{length-take-le, drop-append-le, drop-append-add, drop-drop}
-use Rattle.sha256_block.specs.Fips.{H0, intermediate, compress, hashValue, padding, padded, sha256Words}
-use Rattle.sha256.specs.State.{hashFrom, hashOver, missing, wholeEnd, stored, blockAfter, fresh, pending, fed, digestOf, Holds}
+use Rattle.sha256_block.specs.Fips.{H0, hashValue, padding, sha256Words}
+use Rattle.sha256_block.specs.Blocks.{hashFrom, hashOver}
+use Rattle.sha256_block.proofs.Blocks.{hashFrom-on, hashFrom-front, hashValue-from}
+use Rattle.sha256.specs.State.{missing, wholeEnd, stored, blockAfter, fresh, pending, fed, digestOf, Holds}
 use Rattle.sha256.specs.declared.Hash.{Hash}
-use Rattle.sha256.proofs.Feed.{length-stored, take-stored, hashFrom-on, hashFrom-front, end-whole, rest-of, blockAfter-fill}
-
--- ---- hashValue
-
-hashValue-from : (ws : List ℕ) (n : ℕ) → hashValue ws n ≡ hashFrom H0 ws n
-unfolding hashValue hashFrom
-hashValue-from ws zero = refl
-hashValue-from ws (suc n) = ap (λ (H : List ℕ). compress H (take 16 (drop (n * 16) ws))) (hashValue-from ws n)
-
-pub length-hashValue : (ws : List ℕ) (n : ℕ) → length (hashValue ws n) ≡ 8
-unfolding hashValue H0 compress intermediate
-length-hashValue ws zero = refl
-length-hashValue ws (suc n) = refl
-
-pub length-sha256Words : (ws : List ℕ) → length (sha256Words ws) ≡ 8
-unfolding sha256Words
-length-sha256Words ws = length-hashValue (padded ws) (length (padded ws) / 16)
+use Rattle.sha256.proofs.Feed.{length-stored, take-stored, end-whole, rest-of, blockAfter-fill}
 
 -- ---- the block after a piece begins with the words that are not hashed yet
 

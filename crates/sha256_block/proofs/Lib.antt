@@ -2,3 +2,4 @@ pub mod Rounds
 pub mod Forms
 pub mod Padding
 pub mod Agree
+pub mod Blocks

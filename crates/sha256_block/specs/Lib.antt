@@ -1,3 +1,4 @@
 pub mod Fips
 pub mod Words
 pub mod Rounds
+pub mod Blocks
