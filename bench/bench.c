@@ -154,7 +154,7 @@ static bool race(const struct row *row)
     free(m.words);
     free(m.bytes);
     double ratio = all[1].best / all[0].best;
-    printf("  %.2f of plain C's time, at most %.2f wanted: %s\n", ratio, row->bar, ratio <= row->bar ? "met" : "MISSED");
+    printf("  %.3f of plain C's time, at most %.3f wanted: %s\n", ratio, row->bar, ratio <= row->bar ? "met" : "MISSED");
     return ratio <= row->bar;
 }
 
