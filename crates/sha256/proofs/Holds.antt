@@ -8,8 +8,8 @@ use native.Mathlib.Omega.{arith}
 use lib.ListN.{length, take, drop, length-append, length-drop}
 use lib.Seq.{length-take-le, drop-append-le, drop-append-add, drop-drop}
 use Rattle.sha256_block.specs.Fips.{H0, hashValue, padding, sha256Words}
-use Rattle.sha256_block.specs.Blocks.{hashFrom, hashOver}
-use Rattle.sha256_block.proofs.Blocks.{hashFrom-on, hashFrom-front, hashValue-from}
+use Rattle.sha256_blocks.specs.Blocks.{hashFrom, hashOver}
+use Rattle.sha256_blocks.proofs.Blocks.{hashFrom-on, hashFrom-front, hashValue-from}
 use Rattle.sha256.specs.State.{missing, wholeEnd, stored, blockAfter, fresh, pending, fed, digestOf, Holds}
 use Rattle.sha256.specs.declared.Hash.{Hash}
 use Rattle.sha256.proofs.Feed.{length-stored, take-stored, end-whole, rest-of, blockAfter-fill}

@@ -2,4 +2,3 @@ pub mod Rounds
 pub mod Forms
 pub mod Padding
 pub mod Agree
-pub mod Blocks

@@ -1,4 +1,3 @@
 pub mod Fips
 pub mod Words
 pub mod Rounds
-pub mod Blocks

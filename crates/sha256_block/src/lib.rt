@@ -1,4 +1,4 @@
-// The blocks of FIPS 180-4, 6.2.2: the schedule, the rounds and the next hash value.
+// One block of FIPS 180-4, 6.2.2: the schedule, the rounds and the next hash value.
 mod functions;
 
 use crate::functions::add;
@@ -14,10 +14,9 @@ ghost use mathlib.Core.List.{List};
 ghost use lib.ListN.{length};
 ghost use Rattle.sha256_block.specs.Fips as fips;
 ghost use Rattle.sha256_block.specs.Rounds.{Onward};
-ghost use Rattle.sha256_block.specs.Blocks.{hashOver};
 
 // The constants of the rounds (4.2.2).
-const K: [u32; 64] = [
+pub const K: [u32; 64] = [
     0x428a_2f98,
     0x7137_4491,
     0xb5c0_fbcf,
@@ -257,8 +256,9 @@ fn later_rounds(start: Working, k: &[u32; 64], w: &mut [u32; 64]) -> Working
     v
 }
 
-// The hash value h after the block m of 16 words, with the constants k and room w for the schedule.
-fn compress(h: [u32; 8], m: &[u32], k: &[u32; 64], w: &mut [u32; 64]) -> [u32; 8]
+// The hash value h after the block m of 16 words. The constants k and room w for the schedule are the caller's: who has many
+// blocks makes them once.
+pub fn compress(h: [u32; 8], m: &[u32], k: &[u32; 64], w: &mut [u32; 64]) -> [u32; 8]
     requires { ⌜ (now k ≡ fips.K) × (length (now m) ≡ 16) × (length (now w) ≡ 64) ⌝ }
     ensures value { λ r. ⌜ r ≡ fips.compress h (now (m .entry)) ⌝ }
     ensures room { λ _. ⌜ now (w .exit) ≡ fips.schedule (now (m .entry)) 64 ⌝ }
@@ -267,22 +267,4 @@ fn compress(h: [u32; 8], m: &[u32], k: &[u32; 64], w: &mut [u32; 64]) -> [u32; 8
     let after = first_rounds(start, k, m, w);
     let v = later_rounds(after, k, w);
     intermediate(h, v)
-}
-
-// The hash value h after the whole blocks of s, each read where it stands. The constants and the room for the schedule are
-// made once for all of them.
-pub fn compress_blocks(h: [u32; 8], s: &[u32]) -> [u32; 8]
-    ensures { λ r. ⌜ r ≡ hashOver h (now (s .entry)) ⌝ }
-{
-    let k = K;
-    let mut w = [0u32; 64];
-    let mut r = h;
-    let mut i: usize = 0;
-    while s.len() - i >= 16 {
-        let end = i + 16;
-        let next = compress(r, &s[i..end], &k, &mut w);
-        r = next;
-        i = end;
-    }
-    r
 }

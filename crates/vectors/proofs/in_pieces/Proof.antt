@@ -7,7 +7,7 @@ use borrow.Author.Needs.{needs}
 use lib.ListN.{length, take, drop}
 use lib.Seq.{take-length}
 use Rattle.sha256.specs.State.{Holds}
-use Rattle.sha256_block.proofs.Blocks.{length-part}
+use Rattle.sha256_blocks.proofs.Blocks.{length-part}
 use Rattle.sha256.proofs.Feed.{take-more, fed-count}
 use Rattle.sha256.proofs.Holds.{fresh-count, holds-new, holds-fed, digest-held}
 use Rattle.vectors.proofs.in_pieces.Statement.{statement}

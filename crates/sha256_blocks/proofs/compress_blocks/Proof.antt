@@ -5,12 +5,12 @@ use native.Mathlib.Nat.{add-sub-cancel-left}
 use native.Mathlib.Omega.{arith}
 use borrow.Author.Needs.{needs}
 use lib.ListN.{length}
 use Rattle.sha256_block.specs.Fips.{K}
 use Rattle.sha256_block.proofs.Rounds.{length-schedule}
-use Rattle.sha256_block.specs.Blocks.{hashFrom}
-use Rattle.sha256_block.proofs.Blocks.{length-part, hashFrom-next, hashFrom-end}
-use Rattle.sha256_block.proofs.compress_blocks.Statement.{statement}
-use Rattle.sha256_block.proofs.compress_blocks.Tie as tie
+use Rattle.sha256_blocks.specs.Blocks.{hashFrom}
+use Rattle.sha256_blocks.proofs.Blocks.{length-part, hashFrom-next, hashFrom-end}
+use Rattle.sha256_blocks.proofs.compress_blocks.Statement.{statement}
+use Rattle.sha256_blocks.proofs.compress_blocks.Tie as tie
 
 abbrev Inv-loop : tie.InvT-loop
 Inv-loop s k w₀ r₀ i₀ w r i = (i ≤ length s) × (i % 16 ≡ 0) × (length w ≡ 64) × (r ≡ hashFrom r₀ s (i / 16))

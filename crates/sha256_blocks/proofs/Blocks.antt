@@ -6,8 +6,8 @@ use native.Mathlib.Nat.{le-of-eq, suc-mul, add-zero, add-suc, add-sub-cancel-lef
 use native.Mathlib.Omega.{arith}
 use lib.ListN.{length, take, drop, length-append, length-drop}
 use lib.Seq.{length-take-le, take-append-le, drop-append-le, drop-at, drop-drop}
 use Rattle.sha256_block.specs.Fips.{H0, intermediate, compress, hashValue, padded, sha256Words}
-use Rattle.sha256_block.specs.Blocks.{hashFrom, hashOver}
+use Rattle.sha256_blocks.specs.Blocks.{hashFrom, hashOver}
 
 -- ---- parts of a list
 
