@@ -42,10 +42,6 @@ module _ (k : ℕ) (P : List ℕ) (few : length P ≡ k % 16) where
       ∙ ap (λ (j : ℕ). replicate j 0) n))
       ∙ set-at P 0 (replicate (31 - k % 16) 0) 0x8000_0000 (k % 16) few
 
-  -- how many zeros come before the length
-  zeros : (29 - k % 16) % 16 ≡ endOf k - 3 - k % 16
-  zeros = omega arith
-
   take-begun : take (endOf k - 2) (P ++ 0x8000_0000 ∷ replicate (31 - k % 16) 0) ≡ P ++ 0x8000_0000 ∷ replicate ((29 - k % 16) % 16) 0
   take-begun =
       let n : endOf k - 2 ≡ length P + suc ((29 - k % 16) % 16) = omega (arith, few) in
