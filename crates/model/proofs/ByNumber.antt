@@ -5,7 +5,7 @@ use native.Mathlib.Omega.{arith}
 use mathlib.Core.Path.{_≡_, refl}
 use mathlib.Core.Logic.{_≢_, _↔_, _⊎_, inl, inr, ⊎-elim}
 use mathlib.Core.List.{List}
-use Rattle.model.specs.Refusal.{emptyBoard, truncated, tableFull}
+use Rattle.model.specs.Refusal.{emptyBoard, truncated, badClosing}
 use Rattle.model.specs.Format.{Format}
 use Rattle.model.specs.Audit.{Outcome, unread, refused, audit}
 use Rattle.model.specs.Reasons.{FirstOf, startReasons, EndsAt, ClosesAt, HeadAt, itemReasons, closingReasons, Reached, Answers, atStart, atEmpty, atEnd, atItem, atClosing}
@@ -20,13 +20,13 @@ module _ (f : Format) (ws vs : List ℕ) (index ballots : ℕ) where
   Reaching = Reached f ws vs index ballots
 
   -- the numbers that the lists of reasons have
-  item-numbers : (n k : ℕ) → FirstOf (itemReasons f ws vs k) n → (n ≢ emptyBoard) × (n < tableFull)
+  item-numbers : (n k : ℕ) → FirstOf (itemReasons f ws vs k) n → (n ≢ emptyBoard) × (n ≢ badClosing)
   unfolding itemReasons
-  item-numbers n k s = every-first (λ n. (n ≢ emptyBoard) × (n < tableFull)) (omega arith) s
+  item-numbers n k s = every-first (λ n. (n ≢ emptyBoard) × (n ≢ badClosing)) (omega arith) s
 
-  closing-numbers : (n k : ℕ) → FirstOf (closingReasons f ws vs k ballots) n → tableFull ≤ n
+  closing-numbers : (n k : ℕ) → FirstOf (closingReasons f ws vs k) n → n ≡ badClosing
   unfolding closingReasons
-  closing-numbers n k s = every-first (λ n. tableFull ≤ n) (omega arith) s
+  closing-numbers n k s = every-first (λ n. n ≡ badClosing) (omega arith) s
 
   -- ---- from an answer to its reason
 
@@ -46,18 +46,18 @@ module _ (f : Format) (ws vs : List ℕ) (index ballots : ℕ) where
   truncated-of (atItem n k r head s) q = (r, inr (head, rw q at s))
   truncated-of (atClosing n k r last s) q = absurd (omega (arith, closing-numbers n k s))
 
-  item-of : {n k : ℕ} → Answer (refused n k) → n ≢ emptyBoard → n ≢ truncated → n < tableFull
+  item-of : {n k : ℕ} → Answer (refused n k) → n ≢ emptyBoard → n ≢ truncated → n ≢ badClosing
       → Reaching k × HeadAt f ws k × FirstOf (itemReasons f ws vs k) n
-  item-of (atEmpty s) blank whole small = absurd (blank refl)
-  item-of (atEnd k r end) blank whole small = absurd (whole refl)
-  item-of (atItem n k r head s) blank whole small = (r, head, s)
-  item-of (atClosing n k r last s) blank whole small = absurd (omega (arith, closing-numbers n k s))
+  item-of (atEmpty s) blank whole early = absurd (blank refl)
+  item-of (atEnd k r end) blank whole early = absurd (whole refl)
+  item-of (atItem n k r head s) blank whole early = (r, head, s)
+  item-of (atClosing n k r last s) blank whole early = absurd (early (closing-numbers n k s))
 
-  closing-of : {n k : ℕ} → Answer (refused n k) → tableFull ≤ n → Reaching k × ClosesAt f ws k × FirstOf (closingReasons f ws vs k ballots) n
-  closing-of (atEmpty s) large = absurd (omega arith)
-  closing-of (atEnd k r end) large = absurd (omega arith)
-  closing-of (atItem n k r head s) large = absurd (omega (arith, item-numbers n k s .1))
-  closing-of (atClosing n k r last s) large = (r, last, s)
+  closing-of : {n k : ℕ} → Answer (refused n k) → n ≡ badClosing → Reaching k × ClosesAt f ws k × FirstOf (closingReasons f ws vs k) badClosing
+  closing-of (atEmpty s) q = absurd (omega arith)
+  closing-of (atEnd k r end) q = absurd (omega arith)
+  closing-of (atItem n k r head s) q = absurd (item-numbers n k s .1 q)
+  closing-of (atClosing n k r last s) q = (r, last, rw q at s)
 
   -- ---- which number is given when
 
@@ -84,11 +84,10 @@ module _ (f : Format) (ws vs : List ℕ) (index ballots : ℕ) where
   )
 
   -- 1's item limit, 5, 6, and 7 to 16
-  pub item-reason : (n k : ℕ) → n ≢ emptyBoard → n ≢ truncated → n < tableFull
+  pub item-reason : (n k : ℕ) → n ≢ emptyBoard → n ≢ truncated → n ≢ badClosing
       → (outcome ≡ refused n k) ↔ (Reaching k × HeadAt f ws k × FirstOf (itemReasons f ws vs k) n)
-  item-reason n k blank whole small = (λ e. item-of (told _ .0 e) blank whole small, λ (r, head, s). told _ .1 (atItem n k r head s))
+  item-reason n k blank whole early = (λ e. item-of (told _ .0 e) blank whole early, λ (r, head, s). told _ .1 (atItem n k r head s))
 
-  -- 18 and 17
-  pub closing-reason : (n k : ℕ) → tableFull ≤ n
-      → (outcome ≡ refused n k) ↔ (Reaching k × ClosesAt f ws k × FirstOf (closingReasons f ws vs k ballots) n)
-  closing-reason n k large = (λ e. closing-of (told _ .0 e) large, λ (r, last, s). told _ .1 (atClosing n k r last s))
+  -- 18
+  pub closing-reason : (k : ℕ) → (outcome ≡ refused badClosing k) ↔ (Reaching k × ClosesAt f ws k × FirstOf (closingReasons f ws vs k) badClosing)
+  closing-reason k = (λ e. closing-of (told _ .0 e) refl, λ (r, last, s). told _ .1 (atClosing badClosing k r last s))

@@ -66,7 +66,7 @@ module _ (f : Format) (ws vs : List ℕ) (k : ℕ) where
   meets-none : k < itemLimit → length (verdictOf f ws vs (history f ws k)) ≡ verdictSize → Meeting → NoneOf (itemReasons f ws vs k)
   unfolding itemAt
   meets-none small long (fit, m) =
-      let passes : fault f ws vs (history f ws k) here ≡ noFault = rw (m .listed .found) (item-step f ws vs 0 (history f ws k) here m fit long) in
+      let passes : fault f ws vs (history f ws k) here ≡ noFault = rw (m .listed .found) (item-step f ws vs (history f ws k) here m fit long) in
       by-first (itemReasons f ws vs k) (λ u. u)
       (λ n s. absurd (some-number f ws vs k s (sym (first-number s) ∙ sym (fault-number f ws vs k small) ∙ passes)))
 

@@ -31,7 +31,7 @@ use Rattle.model.proofs.Acceptance.{accepted↔sound}
 
 -- ---- verdict words past 3,430
 
-module _ (f : Format) (ws vs : List ℕ) (room : ℕ) (least : leastItem ≤ itemLength f 0) (short : length ws ≤ programLimit) where
+module _ (f : Format) (ws vs : List ℕ) (least : leastItem ≤ itemLength f 0) (short : length ws ≤ programLimit) where
   abbrev front : List ℕ
   front = take verdictLimit vs
 
@@ -63,23 +63,23 @@ module _ (f : Format) (ws vs : List ℕ) (room : ℕ) (least : leastItem ≤ ite
       (λ q. let e = eqb-true n (length vs) q in eq-eqb n (length front) (rw length-take (omega arith)) ∙ sym q)
       (λ q. let e = eqb-false n (length vs) q in ne-eqb n (length front) (rw length-take (λ d. e (omega arith))) ∙ sym q)
 
-  closing-cut : (h : History) (p : ℕ) → Behind h p → p < length ws → closing f ws front room h p ≡ closing f ws vs room h p
+  closing-cut : (h : History) (p : ℕ) → Behind h p → p < length ws → closing f ws front h p ≡ closing f ws vs h p
   unfolding closing
   closing-cut h p b l = rw (left-cut (verdictSize * length h) (omega arith))
 
-  judged-cut : (n : ℕ) (h : History) (o o′ : Outcome) → (n ≡ 0 → o ≡ o′) → judged f ws front room n h o ≡ judged f ws vs room n h o′
+  judged-cut : (n : ℕ) (h : History) (o o′ : Outcome) → (n ≡ 0 → o ≡ o′) → judged f ws front n h o ≡ judged f ws vs n h o′
   unfolding judged
   judged-cut zero h o o′ e = e refl
   judged-cut (suc n) h o o′ e = refl
 
-  word-cut : (h : History) (p : ℕ) (o o′ : Outcome) → Behind h p → o ≡ o′ → wordAt f ws front room h p o ≡ wordAt f ws vs room h p o′
+  word-cut : (h : History) (p : ℕ) (o o′ : Outcome) → Behind h p → o ≡ o′ → wordAt f ws front h p o ≡ wordAt f ws vs h p o′
   unfolding wordAt
   word-cut h p o o′ b e =
       by-test (leb (length ws) p)
       (λ q. rw q)
       (λ q. rw (q, closing-cut h p b (leb-false (length ws) p q), e))
 
-  items-cut : (k : ℕ) (h : History) (p : ℕ) → Behind h p → items f ws front room k h p ≡ items f ws vs room k h p
+  items-cut : (k : ℕ) (h : History) (p : ℕ) → Behind h p → items f ws front k h p ≡ items f ws vs k h p
   unfolding items itemLength
   items-cut zero h p b = word-cut h p _ _ b refl
   items-cut (suc k) h p b =
@@ -87,15 +87,15 @@ module _ (f : Format) (ws vs : List ℕ) (room : ℕ) (least : leastItem ≤ ite
       (rw (fault-cut (rowOf f (getD ws p 0)) h p b) (judged-cut (fault f ws vs h p) h _ _
       (λ e. items-cut k _ _ (rw length-append (omega (arith, fault-whole (rowOf f (getD ws p 0)) h p e))))))
 
-  pub audit-cut : (index : ℕ) → audit f ws front index room ≡ audit f ws vs index room
+  pub audit-cut : (index ballots : ℕ) → audit f ws front index ballots ≡ audit f ws vs index ballots
   unfolding audit
-  audit-cut index = rw (items-cut itemLimit [] 0 (omega arith))
+  audit-cut index ballots = rw (items-cut itemLimit [] 0 (omega arith))
 
 -- the board's words too
 both-cut : (f : Format) (ws vs : List ℕ) → leastItem ≤ itemLength f 0 → length ws ≤ programLimit
     → audit f (take programLimit ws) (take verdictLimit vs) indexNeed ballotNeed ≡ audit f ws vs indexNeed ballotNeed
 both-cut f ws vs least short =
-    ap (λ us. audit f us (take verdictLimit vs) indexNeed ballotNeed) (take-all programLimit ws short) ∙ audit-cut f ws vs ballotNeed least short indexNeed
+    ap (λ us. audit f us (take verdictLimit vs) indexNeed ballotNeed) (take-all programLimit ws short) ∙ audit-cut f ws vs least short indexNeed ballotNeed
 
 -- ---- the base's format
 

@@ -18,8 +18,7 @@ use Rattle.model.specs.Refusal.{noFault, tooLarge, emptyBoard, truncated
 use Rattle.model.specs.Format.{Format}
 use Rattle.model.specs.Types.{Row, rowOf}
 use Rattle.model.specs.History.{placeOf, history}
-use Rattle.model.specs.Counted.{counted}
-use Rattle.model.specs.Audit.{Outcome, unread, refused, accepted, Check, firstUnmet, checks, faultIn, fault, closing, judged, items, audit, itemLimit, isTooLarge, isShort, isEmpty, ballotRow, closingOk}
+use Rattle.model.specs.Audit.{Outcome, unread, refused, accepted, Check, firstUnmet, checks, faultIn, fault, closing, judged, items, audit, itemLimit, isTooLarge, isShort, isEmpty, closingOk}
 use Rattle.model.specs.Reasons.{Reason, NoneOf, FirstOf, startReasons, listedWith, ClosesAt, HeadAt, itemReasons, closingReasons, Reached, Answers, atStart, atEmpty, atEnd, atItem, atClosing, acceptance}
 use Rattle.model.proofs.Tests.{tests, by-test, passes, neither, if-yes, if-no}
 use Rattle.model.proofs.FirstReason.{firstNumber, by-first, none-number, first-number, every-first}
@@ -60,42 +59,42 @@ module _ (f : Format) (ws vs : List ℕ) (k : ℕ) where
 
 -- ---- the audit along the reasons
 
-module _ (f : Format) (ws vs : List ℕ) (room k : ℕ) where
+module _ (f : Format) (ws vs : List ℕ) (k : ℕ) where
   abbrev after : ℕ → Outcome
-  after = itemsFrom f ws vs room
+  after = itemsFrom f ws vs
 
   -- no reason applies to an item
   item-passed : HeadAt f ws k → NoneOf (itemReasons f ws vs k) → after k ≡ after (suc k)
   item-passed (there, head) u =
       let small = few f ws vs k u in
-      items-passed f ws vs room k there head small (fault-number f ws vs k small ∙ none-number _ u)
+      items-passed f ws vs k there head small (fault-number f ws vs k small ∙ none-number _ u)
 
   -- a reason is the first to apply to it
   item-refused : (n : ℕ) → HeadAt f ws k → FirstOf (itemReasons f ws vs k) n → after k ≡ refused n k
   item-refused n (there, head) s =
       by-cases (decLe itemLimit k)
-      (λ l. rw (sym (first-number s) ∙ full-number f ws vs k l) (items-full f ws vs room k there head l))
-      (λ l. items-refused f ws vs room k there head (omega arith) n (fault-number f ws vs k (omega arith) ∙ first-number s) (some-number f ws vs k s))
+      (λ l. rw (sym (first-number s) ∙ full-number f ws vs k l) (items-full f ws vs k there head l))
+      (λ l. items-refused f ws vs k there head (omega arith) n (fault-number f ws vs k (omega arith) ∙ first-number s) (some-number f ws vs k s))
 
   -- at the closing word
-  closing-number : closing f ws vs room (history f ws k) (placeOf f ws k)
-      ≡ judged f ws vs room (firstNumber (closingReasons f ws vs k room)) (history f ws k) (accepted (history f ws k))
+  closing-number : closing f ws vs (history f ws k) (placeOf f ws k)
+      ≡ judged f ws vs (firstNumber (closingReasons f ws vs k)) (history f ws k) (accepted (history f ws k))
   unfolding closing judged closingReasons firstNumber
   closing-number =
       by-test (not (closingOk ws vs (history f ws k) (placeOf f ws k)))
       (λ q. rw q)
-      (λ q. rw q (by-test (ltb room (ballotRow * length (counted (history f ws k)))) (λ s. rw s) (λ s. rw s)))
+      (λ q. rw q)
 
-  closing-refused : (n : ℕ) → ClosesAt f ws k → FirstOf (closingReasons f ws vs k room) n → after k ≡ refused n k
+  closing-refused : (n : ℕ) → ClosesAt f ws k → FirstOf (closingReasons f ws vs k) n → after k ≡ refused n k
   unfolding closingReasons
   closing-refused n (there, last) s =
       let some = every-first (λ m. m ≢ noFault) (omega arith) s in
-      items-closing f ws vs room k there last ∙ closing-number
-      ∙ rw (first-number s) (judged-refused f ws vs room n (history f ws k) _ some ∙ rw (length-history f ws k))
+      items-closing f ws vs k there last ∙ closing-number
+      ∙ rw (first-number s) (judged-refused f ws vs n (history f ws k) _ some ∙ rw (length-history f ws k))
 
-  closing-accepted : ClosesAt f ws k → NoneOf (closingReasons f ws vs k room) → after k ≡ accepted (history f ws k)
+  closing-accepted : ClosesAt f ws k → NoneOf (closingReasons f ws vs k) → after k ≡ accepted (history f ws k)
   unfolding judged
-  closing-accepted (there, last) u = items-closing f ws vs room k there last ∙ closing-number ∙ rw (none-number _ u)
+  closing-accepted (there, last) u = items-closing f ws vs k there last ∙ closing-number ∙ rw (none-number _ u)
 
 module _ (f : Format) (ws vs : List ℕ) (index ballots : ℕ) where
   -- before the items
@@ -103,7 +102,7 @@ module _ (f : Format) (ws vs : List ℕ) (index ballots : ℕ) where
   unfolding if_then_else_
   startAnswer n o = if eqb n noFault then o else if eqb n emptyBoard then refused emptyBoard 0 else unread n
 
-  start-number : audit f ws vs index ballots ≡ startAnswer (firstNumber (startReasons ws index ballots)) (items f ws vs ballots itemLimit [] 0)
+  start-number : audit f ws vs index ballots ≡ startAnswer (firstNumber (startReasons ws index ballots)) (items f ws vs itemLimit [] 0)
   unfolding audit startAnswer startReasons firstNumber
   start-number =
       by-test (isTooLarge ws) (λ q. rw q)
@@ -111,13 +110,13 @@ module _ (f : Format) (ws vs : List ℕ) (index ballots : ℕ) where
       (λ s. rw s (by-test (isEmpty ws) (λ t. rw t) (λ t. rw t)))))
 
   -- the first k items pass
-  reached : (k : ℕ) → Reached f ws vs index ballots k → audit f ws vs index ballots ≡ itemsFrom f ws vs ballots k
+  reached : (k : ℕ) → Reached f ws vs index ballots k → audit f ws vs index ballots ≡ itemsFrom f ws vs k
   unfolding startAnswer
-  reached zero r = start-number ∙ rw (none-number _ (r .started)) (items-start f ws vs ballots)
+  reached zero r = start-number ∙ rw (none-number _ (r .started)) (items-start f ws vs)
   reached (suc k) r =
       let last = r .passed k (omega arith) in
       let before : Reached f ws vs index ballots k = record { started = r .started; passed = λ j l. r .passed j (omega arith) } in
-      reached k before ∙ item-passed f ws vs ballots k (last .0) (last .1)
+      reached k before ∙ item-passed f ws vs k (last .0) (last .1)
 
   answered : {o : Outcome} → Answers f ws vs index ballots o → audit f ws vs index ballots ≡ o
   unfolding startAnswer startReasons
@@ -125,10 +124,10 @@ module _ (f : Format) (ws vs : List ℕ) (index ballots : ℕ) where
       let some = every-first (λ m. m ≢ noFault) (omega arith) s in
       start-number ∙ rw (first-number s) (if-no (eqb n noFault) _ _ (omega (arith, tests)) ∙ if-no (eqb n emptyBoard) _ _ (omega (arith, tests)))
   answered (atEmpty s) = start-number ∙ rw (first-number s)
-  answered (atEnd k r end) = reached k r ∙ items-ended f ws vs ballots k end
-  answered (atItem n k r head s) = reached k r ∙ item-refused f ws vs ballots k n head s
-  answered (atClosing n k r last s) = reached k r ∙ closing-refused f ws vs ballots k n last s
-  answered (acceptance k r last u) = reached k r ∙ closing-accepted f ws vs ballots k last u
+  answered (atEnd k r end) = reached k r ∙ items-ended f ws vs k end
+  answered (atItem n k r head s) = reached k r ∙ item-refused f ws vs k n head s
+  answered (atClosing n k r last s) = reached k r ∙ closing-refused f ws vs k n last s
+  answered (acceptance k r last u) = reached k r ∙ closing-accepted f ws vs k last u
 
   abbrev Answered : Type 0
   Answered = (o : Outcome) × Answers f ws vs index ballots o
@@ -146,7 +145,7 @@ module _ (f : Format) (ws vs : List ℕ) (index ballots : ℕ) where
       λ l.
       let there : placeOf f ws k < length ws = omega arith in
       by-test (isClosing (getD ws (placeOf f ws k) 0))
-      (λ q. by-first (closingReasons f ws vs k ballots)
+      (λ q. by-first (closingReasons f ws vs k)
       (λ u. (accepted (history f ws k), acceptance k r (there, passes q) u))
       (λ n s. (refused n k, atClosing n k r (there, passes q) s)))
       (λ q. by-first (itemReasons f ws vs k) (next (there, rw q tt)) (λ n s. (refused n k, atItem n k r (there, rw q tt) s)))

@@ -10,18 +10,17 @@ use lib.ListN.{length, getD}
 use lib.Dec.{T, leb, ltb}
 use Rattle.model.specs.Lists.{any}
 use Rattle.model.specs.Words.{countOf, isClosing}
-use Rattle.model.specs.Refusal.{tooLarge, shortTable, emptyBoard, truncated, unknownType, wrongCount, wrongAddress, wrongPrevious, wrongParent, earlierTime, outOfPhase, duplicate, badContent, noVerdict, wrongKey, badSignature, tableFull, badClosing}
+use Rattle.model.specs.Refusal.{tooLarge, shortTable, emptyBoard, truncated, unknownType, wrongCount, wrongAddress, wrongPrevious, wrongParent, earlierTime, outOfPhase, duplicate, badContent, noVerdict, wrongKey, badSignature, badClosing}
 use Rattle.model.specs.Format.{Format}
 use Rattle.model.specs.Item.{itemAt, behind}
 use Rattle.model.specs.Types.{Row, rowOf, fits}
 use Rattle.model.specs.History.{placeOf, history}
-use Rattle.model.specs.Counted.{counted}
 use Rattle.model.specs.Links.{addressOk, previousOk, parentOk, timeOk}
 use Rattle.model.specs.Phase.{phaseOk}
 use Rattle.model.specs.Only.{onlyOk}
 use Rattle.model.specs.Content.{contentOk}
 use Rattle.model.specs.Keys.{keyOf, verdictOk, keyOk, signatureOk}
-use Rattle.model.specs.Audit.{Outcome, unread, refused, accepted, itemLimit, ballotRow, isTooLarge, isShort, isEmpty, closingOk, verdictOf}
+use Rattle.model.specs.Audit.{Outcome, unread, refused, accepted, itemLimit, isTooLarge, isShort, isEmpty, closingOk, verdictOf}
 
 -- a row of the paper's table: the refusal's number, and whether its condition applies
 pub record Reason : Type 0 where
@@ -101,11 +100,10 @@ module _ (f : Format) (ws vs : List ℕ) (k : ℕ) where
       ∷ badSignature when not (signatureOk v)
       ∷ []
 
-  -- "At the closing word: 18, then 17", with so many words in the ballot table
-  unfoldable pub closingReasons : ℕ → List Reason
-  closingReasons room =
+  -- "At the closing word: 18"
+  unfoldable pub closingReasons : List Reason
+  closingReasons =
       badClosing when not (closingOk ws vs (history f ws k) (placeOf f ws k))
-      ∷ tableFull when ltb room (ballotRow * length (counted (history f ws k)))
       ∷ []
 
 -- the first k items pass: each has a head, and no reason applies to it
@@ -129,7 +127,7 @@ module _ (f : Format) (ws vs : List ℕ) (index ballots : ℕ) where
     atEnd : (k : ℕ) → Reached k → EndsAt f ws k → Answers (refused truncated k)
     -- 1's item limit, 5, 6, 4, or 7 to 16
     atItem : (n k : ℕ) → Reached k → HeadAt f ws k → FirstOf (itemReasons f ws vs k) n → Answers (refused n k)
-    -- 18, or 17
-    atClosing : (n k : ℕ) → Reached k → ClosesAt f ws k → FirstOf (closingReasons f ws vs k ballots) n → Answers (refused n k)
+    -- 18
+    atClosing : (n k : ℕ) → Reached k → ClosesAt f ws k → FirstOf (closingReasons f ws vs k) n → Answers (refused n k)
     -- "Acceptance gives 0"
-    acceptance : (k : ℕ) → Reached k → ClosesAt f ws k → NoneOf (closingReasons f ws vs k ballots) → Answers (accepted (history f ws k))
+    acceptance : (k : ℕ) → Reached k → ClosesAt f ws k → NoneOf (closingReasons f ws vs k) → Answers (accepted (history f ws k))

@@ -70,9 +70,7 @@ wrongKey = 15
 abbrev pub badSignature : ℕ
 badSignature = 16
 
--- 17 list full: "a counted ballot's row doesn't fit"
-abbrev pub tableFull : ℕ
-tableFull = 17
+-- 17 is unused. Request (viii): "Prove that bound, remove 17 and leave its number unused."
 
 -- 18 bad close: "wrong number, words after it, or verdict words left over"
 abbrev pub badClosing : ℕ
