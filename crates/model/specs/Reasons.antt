@@ -100,7 +100,7 @@ module _ (f : Format) (ws vs : List ℕ) (k : ℕ) where
       ∷ badSignature when not (signatureOk v)
       ∷ []
 
-  -- "At the closing word: 18"
+  -- "At the closing word: 18, then 17", which request (viii) removed
   unfoldable pub closingReasons : List Reason
   closingReasons =
       badClosing when not (closingOk ws vs (history f ws k) (placeOf f ws k))

@@ -1,6 +1,7 @@
 -- The refusals: each row of the paper's table under a name of what is wrong, beside the paper's number, word and condition.
 -- Paper: "Refusals and their order". Assumes nothing.
 use Prim.Native.Nat.{ℕ}
+use mathlib.Core.List.{List, [], _∷_}
 
 -- no refusal: the board is accepted, the item passes
 abbrev pub noFault : ℕ
@@ -70,7 +71,7 @@ wrongKey = 15
 abbrev pub badSignature : ℕ
 badSignature = 16
 
--- 17 is unused. Request (viii): "Prove that bound, remove 17 and leave its number unused."
+-- 17 is unused: list full, "a counted ballot's row doesn't fit", which request (viii) removed, as there are never so many counted ballots
 
 -- 18 bad close: "wrong number, words after it, or verdict words left over"
 abbrev pub badClosing : ℕ
@@ -79,3 +80,15 @@ badClosing = 18
 -- 19 no such point: "comparing and ancestry only"
 abbrev pub noSuchItem : ℕ
 noSuchItem = 19
+
+-- ---- which of them an audit gives
+
+-- before anything is read or written
+abbrev pub startRefusals : List ℕ
+startRefusals = tooLarge ∷ shortTable ∷ []
+
+-- with the items passed so far
+abbrev pub readRefusals : List ℕ
+readRefusals =
+    tooLarge ∷ emptyBoard ∷ truncated ∷ unknownType ∷ wrongCount ∷ wrongAddress ∷ wrongPrevious ∷ wrongParent ∷ earlierTime ∷ outOfPhase
+    ∷ duplicate ∷ badContent ∷ noVerdict ∷ wrongKey ∷ badSignature ∷ badClosing ∷ []
