@@ -8,16 +8,15 @@ use mathlib.Core.List.{List, [], _∷_, _++_}
 use lib.ListN.{length, getD, take, drop, set, length-drop}
 use lib.Seq.{take-suc, take-suc-set, getD-drop}
 use lib.Dec.{eqb}
-use borrow.Author.Tests.{eq-eqb, ne-eqb, lt-ltb, le-ltb}
+use borrow.Author.Tests.{eq-eqb, ne-eqb}
 use Rattle.model.specs.Lists.{if_then_else_, part}
-use Rattle.model.specs.Refusal.{badClosing, tableFull}
+use Rattle.model.specs.Refusal.{badClosing}
 use Rattle.model.specs.Item.{itemLength}
 use Rattle.model.specs.History.{History, Entry, endAddress}
 use Rattle.model.specs.Counted.{counted, totalWeight}
-use Rattle.model.specs.Audit.{refused, accepted, closing, closingOk, ballotRow}
+use Rattle.model.specs.Audit.{refused, accepted, closing, closingOk}
 use Rattle.model.specs.Report.{reportOf}
 use Rattle.model.proofs.Unchecked.{length-history}
-use Rattle.model.proofs.Votes.{counted-few}
 use Rattle.format.specs.Base.{base}
 use Rattle.format.specs.Layout.{itemOf}
 use Rattle.format.specs.declared.item.Item.{Item}
@@ -75,30 +74,19 @@ copied-more board eight at k l m e =
     (take-suc-set eight k x l ∙ ap (λ (r : List ℕ). r ++ (x ∷ [])) e
     ∙ sym (take-suc (drop at board) k 0 rest ∙ ap (λ (y : ℕ). take k (drop at board) ++ (y ∷ [])) (getD-drop at board k 0)))
 
--- ---- 18, then 17, and the report
+-- ---- the outcome, and the report
 
-module _ (board verdicts : List ℕ) (room : ℕ) (s : State) where
+module _ (board verdicts : List ℕ) (s : State) where
   abbrev h : History
   h = before board (s .items)
 
-  pub close-bad : closingOk board verdicts h (s .place) ≡ false → closing base board verdicts room h (s .place) ≡ refused badClosing (s .items)
+  pub close-bad : closingOk board verdicts h (s .place) ≡ false → closing base board verdicts h (s .place) ≡ refused badClosing (s .items)
   unfolding closing if_then_else_
   close-bad q = rw (q, length-history base board (s .items))
 
-  module _ (closed : closingOk board verdicts h (s .place) ≡ true) (stands : Stands board s) where
-    pub close-full : room < ballotRow * s .ballots → closing base board verdicts room h (s .place) ≡ refused tableFull (s .items)
-    unfolding closing if_then_else_
-    close-full l = rw (closed, ← stands .ballots, lt-ltb _ _ l, length-history base board (s .items))
-
-    pub close-good : ballotRow * s .ballots ≤ room → closing base board verdicts room h (s .place) ≡ accepted h
-    unfolding closing if_then_else_
-    close-good l = rw (closed, ← stands .ballots, le-ltb _ _ l)
-
--- the counted ballots are no more than the items
-pub ballots-few : {board : List ℕ} {s : State} → Stands board s → s .ballots ≤ s .items
-ballots-few {board} {s} stands =
-    let h = before board (s .items) in
-    omega (arith, stands .ballots, counted-few h, length-history base board (s .items))
+  pub close-good : closingOk board verdicts h (s .place) ≡ true → closing base board verdicts h (s .place) ≡ accepted h
+  unfolding closing if_then_else_
+  close-good q = rw q
 
 pub holds-rows : {board ballots : List ℕ} {s : State} → Stands board s → Tallied board ballots (s .items)
     → HoldsRows ballots (s .ballots) (counted (before board (s .items)))

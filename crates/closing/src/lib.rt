@@ -1,4 +1,4 @@
-// The closing word: 18, then 17, and the report of a board that is accepted.
+// The closing word: 18, and the report of a board that is accepted.
 ghost use mathlib.Core.Path.{_≡_};
 ghost use Prim.Native.Nat.{_+_, _<_, _≤_};
 ghost use lib.ListN.{length};
@@ -13,7 +13,6 @@ ghost use Rattle.tally.specs.Tallied.{Tallied};
 ghost use Rattle.report.specs.Reported.{reported};
 ghost use Rattle.closing.specs.Outcome.{closingOutcome};
 use format::item::Item;
-use format::limit::Limit;
 use keys::Verdict;
 use refusal::Refusal;
 use report::Answer;
@@ -68,15 +67,11 @@ fn end_address(board: &[u32], index: &[u32], s: State) -> [u32; 8]
 pub fn close(board: &[u32], verdicts: &[u32], index: &[u32], ballots: &[u32], s: State) -> Report
     requires { ⌜ (Kept (now board) (now index) (s .items)) × (Stands (now board) s) × (Tallied (now board) (now ballots) (s .items)) ⌝ }
     requires { ⌜ s .place < length (now board) ⌝ }
-    ensures { λ r. ⌜ reported r ≡ reportOf base (closingOutcome (now (board .entry)) (now (verdicts .entry)) (now (ballots .entry)) s) ⌝ }
+    ensures { λ r. ⌜ reported r ≡ reportOf base (closingOutcome (now (board .entry)) (now (verdicts .entry)) s) ⌝ }
 {
     // 18 bad close
     if !is_closed(board, verdicts, index, s) {
         return Report::refused(Refusal::BadClosing, s.items);
-    }
-    // 17 list full
-    if ballots.len() < Limit::BALLOT_ROW * s.ballots {
-        return Report::refused(Refusal::TableFull, s.items);
     }
     let weight = tally::total_weight(ballots, s.ballots);
     let end = end_address(board, index, s);

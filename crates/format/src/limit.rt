@@ -5,6 +5,7 @@ ghost use Rattle.format.specs.Limit.{limits};
 pub struct Limit {
     pub words: usize,
     pub items: usize,
+    pub counted: usize,
     pub index: usize,
     pub ballots: usize,
 }
@@ -16,6 +17,9 @@ impl Limit {
     // Items of a board.
     pub const ITEMS: usize = 2_048;
 
+    // Counted ballots of a board, at most: each needs five items of its own, and five must precede the first session.
+    pub const COUNTED: usize = 408;
+
     // Words of a row of the index table, and of the ballot table.
     pub const INDEX_ROW: usize = 4;
 
@@ -24,7 +28,7 @@ impl Limit {
     // Words that the index table needs, and the ballot table.
     pub const INDEX: usize = Limit::INDEX_ROW * Limit::ITEMS;
 
-    pub const BALLOTS: usize = Limit::BALLOT_ROW * Limit::ITEMS;
+    pub const BALLOTS: usize = Limit::BALLOT_ROW * Limit::COUNTED;
 
     // The limits together.
     pub fn all() -> Self
@@ -33,6 +37,7 @@ impl Limit {
         Limit {
             words: Limit::WORDS,
             items: Limit::ITEMS,
+            counted: Limit::COUNTED,
             index: Limit::INDEX,
             ballots: Limit::BALLOTS,
         }

@@ -24,7 +24,7 @@ use Rattle.text.proofs.Answer.{reportText-textOf, textFrom-sized}
 use Rattle.text.proofs.Files.{kept-enough}
 use Rattle.refusal.specs.Number.{numberOf, foundOf}
 use Rattle.refusal.specs.declared.Refusal.{Refusal}
-use Rattle.refusal.specs.declared.Refusal.the-variants.{TooLarge, ShortTable, EmptyBoard, Truncated, UnknownType, WrongCount, WrongAddress, WrongPrevious, WrongParent, EarlierTime, OutOfPhase, Duplicate, BadContent, NoVerdict, WrongKey, BadSignature, TableFull, BadClosing, NoSuchItem}
+use Rattle.refusal.specs.declared.Refusal.the-variants.{TooLarge, ShortTable, EmptyBoard, Truncated, UnknownType, WrongCount, WrongAddress, WrongPrevious, WrongParent, EarlierTime, OutOfPhase, Duplicate, BadContent, NoVerdict, WrongKey, BadSignature, BadClosing, NoSuchItem}
 use Rattle.refusal.specs.declared.Finding.{Finding}
 use Rattle.refusal.specs.declared.Finding.the-variants.{Passes, Fails}
 use Rattle.program.specs.Read.{Read}
@@ -73,7 +73,6 @@ number-some BadContent e = omega arith
 number-some NoVerdict e = omega arith
 number-some WrongKey e = omega arith
 number-some BadSignature e = omega arith
-number-some TableFull e = omega arith
 number-some BadClosing e = omega arith
 number-some NoSuchItem e = omega arith
 

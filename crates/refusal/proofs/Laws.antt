@@ -3,7 +3,7 @@ use Prim.Native.Nat.{_≤_}
 use native.Mathlib.Omega.{arith}
 use Rattle.refusal.specs.Number.{numberOf}
 use Rattle.refusal.specs.declared.Refusal.{Refusal}
-use Rattle.refusal.specs.declared.Refusal.the-variants.{TooLarge, ShortTable, EmptyBoard, Truncated, UnknownType, WrongCount, WrongAddress, WrongPrevious, WrongParent, EarlierTime, OutOfPhase, Duplicate, BadContent, NoVerdict, WrongKey, BadSignature, TableFull, BadClosing, NoSuchItem}
+use Rattle.refusal.specs.declared.Refusal.the-variants.{TooLarge, ShortTable, EmptyBoard, Truncated, UnknownType, WrongCount, WrongAddress, WrongPrevious, WrongParent, EarlierTime, OutOfPhase, Duplicate, BadContent, NoVerdict, WrongKey, BadSignature, BadClosing, NoSuchItem}
 
 pub number-some : (x : Refusal) → 1 ≤ numberOf x
 number-some TooLarge = omega arith
@@ -22,6 +22,5 @@ number-some BadContent = omega arith
 number-some NoVerdict = omega arith
 number-some WrongKey = omega arith
 number-some BadSignature = omega arith
-number-some TableFull = omega arith
 number-some BadClosing = omega arith
 number-some NoSuchItem = omega arith

@@ -2,7 +2,7 @@
 use Prim.Native.Nat.{ℕ}
 use Rattle.model.specs.Refusal as model
 use Rattle.refusal.specs.declared.Refusal.{Refusal}
-use Rattle.refusal.specs.declared.Refusal.the-variants.{TooLarge, ShortTable, EmptyBoard, Truncated, UnknownType, WrongCount, WrongAddress, WrongPrevious, WrongParent, EarlierTime, OutOfPhase, Duplicate, BadContent, NoVerdict, WrongKey, BadSignature, TableFull, BadClosing, NoSuchItem}
+use Rattle.refusal.specs.declared.Refusal.the-variants.{TooLarge, ShortTable, EmptyBoard, Truncated, UnknownType, WrongCount, WrongAddress, WrongPrevious, WrongParent, EarlierTime, OutOfPhase, Duplicate, BadContent, NoVerdict, WrongKey, BadSignature, BadClosing, NoSuchItem}
 use Rattle.refusal.specs.declared.Finding.{Finding}
 use Rattle.refusal.specs.declared.Finding.the-variants.{Passes, Fails}
 
@@ -23,7 +23,6 @@ numberOf BadContent = model.badContent
 numberOf NoVerdict = model.noVerdict
 numberOf WrongKey = model.wrongKey
 numberOf BadSignature = model.badSignature
-numberOf TableFull = model.tableFull
 numberOf BadClosing = model.badClosing
 numberOf NoSuchItem = model.noSuchItem
 

@@ -35,8 +35,7 @@ pub enum Refusal {
     WrongKey,
     // 16 bad signature
     BadSignature,
-    // 17 list full
-    TableFull,
+    // 17 is unused: list full, which can't come up
     // 18 bad close
     BadClosing,
     // 19 no such point
@@ -70,7 +69,6 @@ pub fn number_of(refusal: Refusal) -> u32
         Refusal::NoVerdict => 14,
         Refusal::WrongKey => 15,
         Refusal::BadSignature => 16,
-        Refusal::TableFull => 17,
         Refusal::BadClosing => 18,
         Refusal::NoSuchItem => 19,
     }

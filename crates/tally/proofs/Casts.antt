@@ -3,9 +3,9 @@ use Prim.Native.Nat.{ℕ, zero, suc, _+_, _-_, _*_, _≤_, _<_}
 use native.Mathlib.Numerals.{add-one}
 use native.Mathlib.Omega.{arith}
 use mathlib.Core.Path.{_≡_, sym, ap, _∙_}
-use mathlib.Core.Bool.{false, not}
+use mathlib.Core.Bool.{false}
 use mathlib.Core.List.{List, [], _∷_, _++_}
-use lib.ListN.{length, getD, take}
+use lib.ListN.{length, getD, take, length-append}
 use lib.Seq.{sets, length-sets, length-take-le, take-suc}
 use lib.Dec.{T, eqb, eqb→eq}
 use borrow.Author.Tests.{ne-eqb, le-leb}
@@ -14,14 +14,15 @@ use Rattle.model.specs.Item.{code, isMain, word}
 use Rattle.model.specs.Types.{inSession}
 use Rattle.model.specs.History.{History, Entry, entry, itemNo, absent, main, mainNumber, typed, placeOf, history, entryOf, parentNumber, sessionNumber}
 use Rattle.model.specs.Counted.{Vote, voteOf, counted, without}
-use Rattle.model.specs.Audit.{indexRow, ballotRow, itemLimit}
+use Rattle.model.specs.Audit.{indexRow, ballotRow, itemLimit, ballotLimit}
+use Rattle.model.specs.Sound.{next}
 use Rattle.model.proofs.Tests.{passes, is-true}
 use Rattle.model.proofs.Table.{main-code}
-use Rattle.model.proofs.Lists.{count-append, count-take, count-few, count-keep}
+use Rattle.model.proofs.Lists.{count-append, count-take, count-few}
 use Rattle.model.proofs.Entries.{orderly, fine-parent, parent-some, parent-main, parent-bound, parent-session, session-up}
 use Rattle.model.proofs.Growth.{counted-other, counted-cast}
 use Rattle.model.proofs.Unchecked.{length-history}
-use Rattle.model.proofs.Votes.{counted-few}
+use Rattle.model.proofs.Bound.{few-ballots}
 use Rattle.format.specs.Base.{base}
 use Rattle.index.specs.declared.Known.{Known}
 use Rattle.index.specs.Kept.{before, itemAfter, Kept}
@@ -73,6 +74,12 @@ module _ {board index : List ℕ} {n : ℕ} {c : Known} (p : Passing board index
   longer : before board (n + 1) ≡ before board n ++ (new ∷ [])
   unfolding history
   longer = rw (add-one n, length-take-le (placeOf base board n) board (p .kept .within))
+
+  -- with it there are still few counted ballots, since it passes
+  next-fit : length (counted (before board (n + 1))) ≤ ballotLimit
+  next-fit =
+      let few : length (before board (n + 1)) ≤ itemLimit = omega (arith, length-history base board (n + 1), p .more) in
+      rw longer (few-ballots (next _ _ _ _ _ (p .kept .passed) (p .meets)) (rw longer at few))
 
   pub counted-same : (c .item .head .code ≡ 20 → ⊥) → counted (before board (n + 1)) ≡ counted (before board n)
   counted-same q = rw longer (counted-other (p .kept .passed) (p .meets) (λ e. q (next-code (passing-next p) ∙ e)))
@@ -143,39 +150,29 @@ module _ {board index ballots : List ℕ} {s : State} {c : Known} (p : Passing b
   pub holds : HoldsRows ballots (s .ballots) (counted (before board (s .items)))
   holds = record { rows = t .rows; number = stands .ballots }
 
-  few : length (counted (before board (s .items))) ≤ s .items
-  few = omega (arith, counted-few (before board (s .items)), length-history base board (s .items))
-
-  pub rows-fit : ballotRow * s .ballots ≤ length ballots
-  rows-fit = omega (arith, few, stands .ballots, p .more, t .room)
-
   pub after-same : (c .item .head .code ≡ 20 → ⊥)
       → Tallied board ballots (s .items + 1) × (s .ballots ≡ length (counted (before board (s .items + 1))))
   after-same q = (record { rows = rw (counted-same p q) (t .rows); room = t .room }, rw (counted-same p q) (stands .ballots))
 
-  module _ (v r : ℕ) (l : List ℕ) (size : length l ≡ length ballots) (kept : HoldsRows l r (without v (counted (before board (s .items))))) where
-    pub rows-few : r < itemLimit
-    rows-few =
-        omega (
-          arith,
-          kept .number,
-          few,
-          p .more,
-          count-keep (λ x. not (eqb (x .voter) v)) (λ x. x) (counted (before board (s .items))),
-          count-few (λ x. not (eqb (x .voter) v)) (counted (before board (s .items))),
-        )
+  -- a cast of the voter v, whose rows were dropped
+  module _ (cast : c .item .head .code ≡ 20) (v r : ℕ) (voter : v ≡ vote p .voter) (l : List ℕ) (size : length l ≡ length ballots)
+      (kept : HoldsRows l r (without v (counted (before board (s .items))))) where
+    counted-is : counted (before board (s .items + 1)) ≡ without v (counted (before board (s .items))) ++ (vote p ∷ [])
+    counted-is = counted-more p cast ∙ rw (← voter)
 
-    pub row-fits : ballotRow * r + ballotRow ≤ length l
-    row-fits = omega (arith, rows-few, t .room)
+    -- one row more still fits: the table has room for as many as there can be
+    pub rows-less : r < ballotLimit
+    rows-less = omega (arith, kept .number, rw (counted-is, length-append) at (next-fit p))
 
-    pub after-cast : (cast : c .item .head .code ≡ 20) → v ≡ vote p .voter → (ballot weight : ℕ) (next : List ℕ)
-        → ballot ≡ vote p .ballot → weight ≡ vote p .weight → next ≡ sets l (ballotRow * r) (ballot ∷ v ∷ weight ∷ [])
-        → Tallied board next (s .items + 1) × (r + 1 ≡ length (counted (before board (s .items + 1))))
-    after-cast cast voter ballot weight next b w e =
+    row-fits : ballotRow * r + ballotRow ≤ length l
+    row-fits = omega (arith, rows-less, t .room)
+
+    pub after-cast : (ballot weight : ℕ) (more : List ℕ)
+        → ballot ≡ vote p .ballot → weight ≡ vote p .weight → more ≡ sets l (ballotRow * r) (ballot ∷ v ∷ weight ∷ [])
+        → Tallied board more (s .items + 1) × (r + 1 ≡ length (counted (before board (s .items + 1))))
+    after-cast ballot weight more b w e =
         let put = holds-put l r (without v (counted (before board (s .items)))) (vote p) kept row-fits in
-        let same : next ≡ sets l (ballotRow * r) (vote p .ballot ∷ vote p .voter ∷ vote p .weight ∷ []) = e ∙ rw (b, voter, w) in
-        let counted-is : counted (before board (s .items + 1)) ≡ without v (counted (before board (s .items))) ++ (vote p ∷ []) =
-        counted-more p cast ∙ rw (← voter) in (
+        let same : more ≡ sets l (ballotRow * r) (vote p .ballot ∷ vote p .voter ∷ vote p .weight ∷ []) = e ∙ rw (b, voter, w) in (
           record { rows = rw (counted-is, same) (put .rows); room = rw (same, length-sets l (ballotRow * r) _) (omega (arith, t .room)) },
           rw counted-is (put .number),
         )

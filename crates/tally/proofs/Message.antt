@@ -21,7 +21,6 @@ use Rattle.model.proofs.Lists.{Every, every-at, every-keep, every-latest}
 use Rattle.model.proofs.Entries.{Fine, orderly, each-fine, typed-main}
 use Rattle.model.specs.Report.{ballotRows}
 use Rattle.model.proofs.Unchecked.{length-history}
-use Rattle.model.proofs.Votes.{counted-few}
 use Rattle.sha256.specs.declared.Hash.{Hash}
 use Rattle.sha256.specs.State.{fed, Holds}
 use Rattle.sha256.proofs.Holds.{holds-fed}
@@ -142,9 +141,6 @@ module _ {board : List ℕ} {e : Entry} {r : Known} (k : IsKnown board e r) wher
 
 module _ {board index ballots : List ℕ} {s : State} (kept : Kept board index (s .items)) (stands : Stands board s)
     (t : Tallied board ballots (s .items)) where
-  pub rows-few : s .ballots ≤ itemLimit
-  rows-few = omega (arith, counted-few (before board (s .items)), length-history base board (s .items), stands .ballots, kept .few)
-
   pub message-all : (k : ℕ) → k ≡ s .ballots → take k (counted (before board (s .items))) ≡ counted (before board (s .items))
   message-all k e = take-all k (counted (before board (s .items))) (omega (arith, stands .ballots))
 

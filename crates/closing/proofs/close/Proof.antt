@@ -6,7 +6,8 @@ use lib.ListN.{length}
 use Rattle.model.specs.Report.{reportOf}
 use Rattle.format.specs.Base.{base}
 use Rattle.state.proofs.Step.{mains-few}
-use Rattle.closing.proofs.Closing.{close-bad, close-full, close-good, ballots-few, holds-rows, accepted-report}
+use Rattle.tally.proofs.Fit.{rows-few, rows-fit}
+use Rattle.closing.proofs.Closing.{close-bad, close-good, holds-rows, accepted-report}
 use Rattle.closing.proofs.close.Statement.{statement}
 use Rattle.closing.proofs.close.Tie as tie
 
@@ -23,58 +24,41 @@ returns c =
     let start = c .before .before .before .before .before .before .before in
     let x = start .args in
     c .refused .ensures ∙ ap (reportOf base)
-    (sym (close-bad (x .board .now) (x .verdicts .now) (length (x .ballots .now)) (x .s) (sym (c .before .before .is-closed .ensures) ∙ not-true _ (c .before .if1 .taken))))
-
-mul-if2 : tie.Need-mul-if2
-mul-if2 c =
-    let start = c .before .before .before .before .before .before .before in
-    let few = start .pre .0 .0 .few in omega (arith, ballots-few (start .pre .0 .1))
-
-refused-requires-2 : tie.Need-refused-requires-2
-refused-requires-2 c κs = c .before .before .before .before .before .before .before .before .pre .0 .0 .few
-
-returns-2 : tie.Need-returns-2
-returns-2 c =
-    let start = c .before .before .before .before .before .before .before .before .before in
-    let x = start .args in
-    c .refused2 .ensures
-    ∙ ap (reportOf base)
-    (sym (close-full (x .board .now) (x .verdicts .now) (length (x .ballots .now)) (x .s) (sym (c .before .before .before .before .is-closed .ensures) ∙ not-false _ (c .before .before .before .if1 .left)) (start .pre .0 .1) (c .before .if2 .taken)))
+    (sym (close-bad (x .board .now) (x .verdicts .now) (x .s) (sym (c .before .before .is-closed .ensures) ∙ not-true _ (c .before .if1 .taken))))
 
 total-weight-requires : tie.Need-total-weight-requires
 total-weight-requires c κs =
-    let start = c .before .before .before .before .before .before .before .before in
-    let few = start .pre .0 .0 .few in (c .if2 .left, omega (arith, ballots-few (start .pre .0 .1)))
+    let p = c .before .before .before .before .before .before .pre .0 in
+    (rows-fit (p .0) (p .1) (p .2), omega (arith, rows-few (p .0) (p .1)))
 
 end-address-requires : tie.Need-end-address-requires
 end-address-requires c κs =
-    let start = c .before .before .before .before .before .before .before .before .before in
-    (start .pre .0 .0, start .pre .0 .1)
+    let p = c .before .before .before .before .before .before .before .pre .0 in
+    (p .0, p .1)
 
-cast-t14 : tie.Need-cast-t14
-cast-t14 c = let few = c .before .before .before .before .before .before .before .before .before .before .before .pre .0 .0 .few in omega arith
+cast-t11 : tie.Need-cast-t11
+cast-t11 c = let few = c .before .before .before .before .before .before .before .before .before .pre .0 .0 .few in omega arith
 
-cast-t15 : tie.Need-cast-t15
-cast-t15 c =
-    let start = c .before .before .before .before .before .before .before .before .before .before .before .before in
+cast-t12 : tie.Need-cast-t12
+cast-t12 c =
+    let start = c .before .before .before .before .before .before .before .before .before .before in
     let few = start .pre .0 .0 .few in omega (arith, mains-few (start .args .board .now) (start .args .s) (start .pre .0 .1))
 
-cast-t16 : tie.Need-cast-t16
-cast-t16 c =
-    let start = c .before .before .before .before .before .before .before .before .before .before .before .before .before in
-    let few = start .pre .0 .0 .few in omega (arith, ballots-few (start .pre .0 .1))
+cast-t13 : tie.Need-cast-t13
+cast-t13 c =
+    let p = c .before .before .before .before .before .before .before .before .before .before .before .pre .0 in
+    omega (arith, rows-few (p .0) (p .1))
 
-returns-3 : tie.Need-returns-3
-returns-3 c =
-    let one = c .before .before .before .before .before .before .before in
+returns-2 : tie.Need-returns-2
+returns-2 c =
+    let one = c .before .before .before .before .before in
     let at-is-closed = one .before in
     let start = at-is-closed .before .before .before .before .before in
     let x = start .args in
     let stands = start .pre .0 .1 in
     accepted-report stands _ _ (c .before .before .before .before .total-weight .ensures _ (holds-rows stands (start .pre .0 .2)))
     (c .before .before .before .end-address .ensures)
-    ∙ ap (reportOf base)
-    (sym (close-good (x .board .now) (x .verdicts .now) (length (x .ballots .now)) (x .s) (sym (at-is-closed .is-closed .ensures) ∙ not-false _ (one .if1 .left)) stands (c .before .before .before .before .before .if2 .left)))
+    ∙ ap (reportOf base) (sym (close-good (x .board .now) (x .verdicts .now) (x .s) (sym (at-is-closed .is-closed .ensures) ∙ not-false _ (one .if1 .left))))
 
 pub close-spec : {M : Type 1} → statement M
 close-spec =
@@ -83,12 +67,9 @@ close-spec =
     is-closed-requires
     refused-requires
     returns
-    mul-if2
-    refused-requires-2
-    returns-2
     total-weight-requires
     end-address-requires
-    cast-t14
-    cast-t15
-    cast-t16
-    returns-3)
+    cast-t11
+    cast-t12
+    cast-t13
+    returns-2)

@@ -2,8 +2,10 @@
 use mathlib.Core.Path.{_≡_, _∙_}
 use Prim.Native.Nat.{_+_, _<_}
 use lib.ListN.{length}
+use Rattle.model.specs.Audit.{ballotLimit}
 use Rattle.index.proofs.Reading.{known-within}
-use Rattle.tally.proofs.Casts.{session-in, session-words, ballot-in, voter-is, weight-is, ballot-is, holds, rows-fit, after-same, rows-few, row-fits, after-cast}
+use Rattle.tally.proofs.Fit.{rows-fit}
+use Rattle.tally.proofs.Casts.{session-in, session-words, ballot-in, voter-is, weight-is, ballot-is, holds, after-same, rows-less, after-cast}
 use native.Mathlib.Omega.{arith}
 use borrow.Author.Needs.{needs}
 use Rattle.tally.proofs.after.Statement.{statement}
@@ -51,20 +53,26 @@ main-number-requires c κs =
     (p .kept, ballot-in p (cast (c .before .before .before)))
 
 without-voter-requires : tie.Need-without-voter-requires
-without-voter-requires c κs = let p = c .before .before .before .before .before .before .before .before .before .before .pre in rows-fit (p .0) (p .1) (p .2)
+without-voter-requires c κs = let p = c .before .before .before .before .before .before .before .before .before .before .pre in rows-fit (p .0 .kept) (p .1) (p .2)
+
+-- one row more fits
+less : (c : tie.After-without-voter) → c .without-voter .result < ballotLimit
+less c =
+    let read = c .before .before .before .before .before in
+    let p = read .before .before .before .before .before .before .pre in
+    let q = cast (read .before) in
+    let w = c .without-voter in
+    rows-less (p .0) (p .1) (p .2) q _ (w .result) (voter-is (p .0) q (read .entry .result) (read .entry .ensures)) (w .last .0) (w .kept .0)
+    (w .ensures _ (holds (p .0) (p .1) (p .2)))
 
 put-row-requires : tie.Need-put-row-requires
 put-row-requires c κs =
-    let p = c .before .before .before .before .before .before .before .before .before .before .before .before .before .before .pre in
-    let w = c .before .before .before .without-voter in
-    row-fits (p .0) (p .1) (p .2) _ (w .result) (w .last .0) (w .kept .0) (w .ensures _ (holds (p .0) (p .1) (p .2)))
+    let dropped = c .before .before .before in
+    let room = dropped .before .before .before .before .before .before .before .before .before .before .before .pre .2 .room in
+    omega (arith, less dropped, room, dropped .without-voter .kept .0)
 
 add-result : tie.Need-add-result
-add-result c =
-    let p = c .before .before .before .before .before .before .before .before .before .before .before .before .before .before .before .before .before .pre in
-    let w = c .before .before .before .before .before .before .without-voter in
-    let few = rows-few (p .0) (p .1) (p .2) _ (w .result) (w .last .0) (w .kept .0) (w .ensures _ (holds (p .0) (p .1) (p .2))) in
-    omega arith
+add-result c = let few = less (c .before .before .before .before .before .before) in omega arith
 
 same-length : tie.Need-same-length
 same-length c = search needs
@@ -77,8 +85,8 @@ returns-2 c =
     let p = c .before .before .before .before .before .before .before .before .before .before .before .before .before .before .before .before .before .pre in
     let w = c .before .before .before .before .before .before .without-voter in
     let number = c .before .before .before .before .before .before .before .before .main-number in
-    after-cast (p .0) (p .1) (p .2) _ (w .result) (w .last .0) (w .kept .0) (w .ensures _ (holds (p .0) (p .1) (p .2))) q
-    (voter-is (p .0) q (e .result) (e .ensures)) _ _ (c .before .before .put-row .last .0)
+    after-cast (p .0) (p .1) (p .2) q _ (w .result) (voter-is (p .0) q (e .result) (e .ensures)) (w .last .0) (w .kept .0)
+    (w .ensures _ (holds (p .0) (p .1) (p .2))) _ _ (c .before .before .put-row .last .0)
     (number .ensures ∙ ballot-is (p .0) q) (weight-is (p .0) q (e .result) (e .ensures)) (c .before .before .put-row .ensures)
 
 pub after-spec : {M : Type 1} → statement M

@@ -2,9 +2,10 @@
 use mathlib.Core.Path.{_≡_, _∙_}
 use Prim.Native.Nat.{_≤_, _*_, _-_}
 use lib.ListN.{getD, take}
-use Rattle.model.specs.Audit.{itemLimit, ballotRow}
+use Rattle.model.specs.Audit.{ballotLimit, ballotRow}
 use Rattle.lookup.specs.Search.{mainEntry}
-use Rattle.tally.proofs.Message.{rows-few, content-in, content-few, item-in, message-more, message-all}
+use Rattle.tally.proofs.Fit.{rows-few}
+use Rattle.tally.proofs.Message.{content-in, content-few, item-in, message-more, message-all}
 use Rattle.model.specs.Counted.{counted, contents}
 use Rattle.sha256.specs.State.{Holds}
 use Rattle.sha256.proofs.Feed.{fed-count}
@@ -22,8 +23,8 @@ Inv-loop board index ballots s hash₀ k₀ hash k =
 abbrev μ-loop : tie.MeasureT-loop
 μ-loop board index ballots s hash₀ k₀ hash k = s .ballots - k
 
-few : (c : tie.Start Inv-loop μ-loop) → c .args .s .ballots ≤ itemLimit
-few c = rows-few (c .pre .0) (c .pre .1) (c .pre .2)
+few : (c : tie.Start Inv-loop μ-loop) → c .args .s .ballots ≤ ballotLimit
+few c = rows-few (c .pre .0) (c .pre .1)
 
 -- the row leads to an item
 found : (c : tie.After-main-entry Inv-loop μ-loop)
