@@ -14,7 +14,7 @@ use Rattle.model.specs.Audit.{Outcome, unread, refused, accepted, indexNeed, ba
 use Rattle.model.specs.Report as model
 use Rattle.model.specs.Report.{reportOf, tableAfter, indexRows, ballotRows, filled}
 use Rattle.model.specs.Sound.{Sound}
-use Rattle.model.proofs.Acceptance.{accepted↔sound, refused-stopped, unread-number}
+use Rattle.model.proofs.Acceptance.{accepted↔sound, unread-some, refused-some}
 use Rattle.model.proofs.Unchecked.{length-history, passed-history, sound-history}
 use Rattle.model.proofs.Report.{tables-keep}
 use Rattle.refusal.specs.Number.{numberOf}
@@ -61,11 +61,11 @@ module _ (board verdicts index ballots : List ℕ) (r : Report) {i b : List ℕ}
     unfolding reportOf
     accepted-is (unread m) e =
         let number = sym (accepted-number r answer) ∙ ap (λ (t : model.Report). t .number) (rw e at (a .0)) in
-        let some = unread-number base board verdicts (length index) (length ballots) m e .0 in
+        let some = unread-some base board verdicts (length index) (length ballots) m e in
         absurd (omega arith)
     accepted-is (refused m k) e =
         let number = sym (accepted-number r answer) ∙ ap (λ (t : model.Report). t .number) (rw e at (a .0)) in
-        let some = refused-stopped base board verdicts (length index) (length ballots) m k e .number .0 in
+        let some = refused-some base board verdicts (length index) (length ballots) m k e in
         absurd (omega arith)
     accepted-is (accepted h) e =
         let sound : Sound base board verdicts h = accepted↔sound base board verdicts (length index) (length ballots) h .0 e .0 in

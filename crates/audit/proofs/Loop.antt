@@ -6,14 +6,14 @@ use mathlib.Core.Path.{_≡_, refl, sym, ap, _∙_}
 use mathlib.Core.Bool.{true, not}
 use mathlib.Core.List.{List, []}
 use lib.ListN.{length, getD}
-use lib.Dec.{T, eqb, ltb}
+use lib.Dec.{T, eqb}
 use borrow.Author.Tests.{eq-eqb, ne-eqb}
 use Rattle.model.specs.Lists.{keep, latest}
 use Rattle.model.specs.Words.{kindOf, isClosing}
 use Rattle.model.specs.Refusal.{noFault, tooLarge, truncated}
 use Rattle.model.specs.History.{placeOf, history}
 use Rattle.model.specs.Counted.{counted}
-use Rattle.model.specs.Audit.{Outcome, refused, closing, closingOk, items, itemLimit, ballotRow, isEmpty}
+use Rattle.model.specs.Audit.{Outcome, refused, closing, closingOk, items, itemLimit, isEmpty}
 use Rattle.model.specs.Report.{reportOf, indexRows, ballotRows, filled}
 use Rattle.model.specs.Sound.{Passed}
 use Rattle.model.proofs.Tests.{eq→eqb, ne→neqb, by-if}
@@ -72,14 +72,14 @@ module _ {board index ballots : List ℕ} (sized : Sized board index ballots) wh
 -- ---- at the head of the loop
 
 module _ (board verdicts : List ℕ) where
-  -- the answer, with so many words in the ballot table
-  abbrev pub answer : ℕ → Outcome
-  answer room = items base board verdicts room itemLimit [] 0
+  -- the answer
+  abbrev pub answer : Outcome
+  answer = items base board verdicts itemLimit [] 0
 
   -- the audit stands behind the first s .items items, the answer is the same from there on, and the tables keep their lengths
   pub record Going (index₀ ballots₀ parents₀ sessions₀ index ballots parents sessions : List ℕ) (s : State) : Type 0 where
     pub reached : Reached board index ballots parents sessions s
-    pub same : answer (length ballots₀) ≡ itemsFrom base board verdicts (length ballots₀) (s .items)
+    pub same : answer ≡ itemsFrom base board verdicts (s .items)
     pub index-size : length index ≡ length index₀
     pub ballots-size : length ballots ≡ length ballots₀
     pub parents-size : length parents ≡ length parents₀
@@ -88,7 +88,7 @@ module _ (board verdicts : List ℕ) where
   pub going-start : {index ballots parents sessions : List ℕ} {s : State} → Sized board index ballots → Zeros index → Zeros ballots
       → (parents ≡ parentChain board 0) × (sessions ≡ sessionChain board 0) → s .items ≡ 0 → Stands board s
       → Going index ballots parents sessions index ballots parents sessions s
-  going-start {ballots = ballots} sized zi zb chains none stands = record {
+  going-start sized zi zb chains none stands = record {
     reached = record {
       kept = rw none (kept-none sized zi);
       stands = stands;
@@ -96,7 +96,7 @@ module _ (board verdicts : List ℕ) where
       parents = rw none (chains .0);
       sessions = rw none (chains .1);
     };
-    same = rw none (items-start base board verdicts (length ballots));
+    same = rw none (items-start base board verdicts);
     index-size = refl;
     ballots-size = refl;
     parents-size = refl;
@@ -104,29 +104,25 @@ module _ (board verdicts : List ℕ) where
   }
 
   -- the tables at the closing word
-  closing-holds : (index ballots : List ℕ) (n p room : ℕ) → Kept board index n → Tallied board ballots n
-      → Holds board (closing base board verdicts room (before board n) p) index ballots
+  closing-holds : (index ballots : List ℕ) (n p : ℕ) → Kept board index n → Tallied board ballots n
+      → Holds board (closing base board verdicts (before board n) p) index ballots
   unfolding closing
-  closing-holds index ballots n p room kept tallied =
+  closing-holds index ballots n p kept tallied =
       let Goal : Outcome → Type 0 = λ o. Holds board o index ballots in
       let held : Kept board index (length (before board n)) × Tallied board ballots (length (before board n)) =
       rw (length-history base board n) (kept, tallied) in
-      by-if Goal (not (closingOk board verdicts (before board n) p)) _ _ (λ t. held)
-      λ t. by-if Goal (ltb room (ballotRow * length (counted (before board n)))) _ _ (λ u. held) (λ u. held)
+      by-if Goal (not (closingOk board verdicts (before board n) p)) _ _ (λ t. held) (λ t. held)
 
   module _ {index₀ ballots₀ parents₀ sessions₀ index ballots parents sessions : List ℕ} {s : State}
       (g : Going index₀ ballots₀ parents₀ sessions₀ index ballots parents sessions s) where
-    abbrev room : ℕ
-    room = length ballots₀
-
     -- what `run` ensures
     abbrev Ran : Report → List ℕ → List ℕ → Type 0
-    Ran r i b = (reported r ≡ reportOf base (answer room)) × Holds board (answer room) i b
+    Ran r i b = (reported r ≡ reportOf base answer) × Holds board answer i b
 
-    stopped : (o : Outcome) → itemsFrom base board verdicts room (s .items) ≡ o → (r : Report) → reported r ≡ reportOf base o
+    stopped : (o : Outcome) → itemsFrom base board verdicts (s .items) ≡ o → (r : Report) → reported r ≡ reportOf base o
         → (i b : List ℕ) → Holds board o i b → Ran r i b
     stopped o e r told i b held =
-        let all : answer room ≡ o = g .same ∙ e in
+        let all : answer ≡ o = g .same ∙ e in
         rw all (told, held)
 
     holds-here : (n : ℕ) → Holds board (refused n (s .items)) index ballots
@@ -137,17 +133,17 @@ module _ (board verdicts : List ℕ) where
 
     pub stop-ended : length board ≤ s .place → (r : Report) → reported r ≡ reportOf base (refused truncated (s .items)) → Ran r index ballots
     stop-ended l r told =
-        stopped _ (items-ended base board verdicts room (s .items) (rw place-is at l)) r told index ballots (holds-here truncated)
+        stopped _ (items-ended base board verdicts (s .items) (rw place-is at l)) r told index ballots (holds-here truncated)
 
     module _ (there : s .place < length board) {head : Head} (is : head ≡ headOf (getD board (s .place) 0)) where
       kind-is : head .kind ≡ kindOf (getD board (placeOf base board (s .items)) 0)
       kind-is = ap (λ (h : Head). h .kind) is ∙ rw place-is
 
       pub stop-closing : head .kind ≡ 15 → (r : Report)
-          → reported r ≡ reportOf base (closing base board verdicts (length ballots) (before board (s .items)) (s .place)) → Ran r index ballots
+          → reported r ≡ reportOf base (closing base board verdicts (before board (s .items)) (s .place)) → Ran r index ballots
       stop-closing k r told =
-          stopped _ (items-closing base board verdicts room (s .items) (rw place-is at there) (eq→eqb _ _ (sym kind-is ∙ k))) r (rw (place-is, g .ballots-size) at told) index ballots
-          (closing-holds index ballots (s .items) _ room (g .reached .kept) (g .reached .tallied))
+          stopped _ (items-closing base board verdicts (s .items) (rw place-is at there) (eq→eqb _ _ (sym kind-is ∙ k))) r (rw place-is at told) index ballots
+          (closing-holds index ballots (s .items) _ (g .reached .kept) (g .reached .tallied))
 
       module _ (head-word : head .kind ≡ 15 → ⊥) where
         item-word : T (not (isClosing (getD board (placeOf base board (s .items)) 0)))
@@ -155,7 +151,7 @@ module _ (board verdicts : List ℕ) where
 
         pub stop-full : s .items ≡ 2048 → (r : Report) → reported r ≡ reportOf base (refused tooLarge (s .items)) → Ran r index ballots
         stop-full q r told =
-            stopped _ (items-full base board verdicts room (s .items) (rw place-is at there) item-word (omega arith)) r told index ballots (holds-here tooLarge)
+            stopped _ (items-full base board verdicts (s .items) (rw place-is at there) item-word (omega arith)) r told index ballots (holds-here tooLarge)
 
         module _ (few : s .items < itemLimit) {index′ ballots′ parents′ sessions′ : List ℕ} {step : Step}
             (stepped : Stepped board verdicts index ballots parents sessions index′ ballots′ parents′ sessions′ s step) where
@@ -166,7 +162,7 @@ module _ (board verdicts : List ℕ) where
               let fails : numberOf x ≡ noFault → ⊥ = λ n. absurd (omega (arith, number-some x)) in
               let (stay, same-index, same-ballots, same-parents, same-sessions) = stepped .failed (λ n. fails (sym number ∙ n)) in
               rw (same-index, same-ballots)
-              (stopped _ (items-refused base board verdicts room (s .items) (rw place-is at there) item-word few (numberOf x) (rw place-is at (sym (stepped .finding) ∙ number)) fails)
+              (stopped _ (items-refused base board verdicts (s .items) (rw place-is at there) item-word few (numberOf x) (rw place-is at (sym (stepped .finding) ∙ number)) fails)
               r told index ballots (holds-here (numberOf x)))
 
           pub going-on : step .finding ≡ Passes → length index′ ≡ length index → length ballots′ ≡ length ballots
@@ -177,7 +173,7 @@ module _ (board verdicts : List ℕ) where
               let (next, reached) = stepped .passed none in
               record {
                 reached = reached;
-                same = g .same ∙ items-passed base board verdicts room (s .items) (rw place-is at there) item-word few (rw place-is at (sym (stepped .finding) ∙ none)) ∙ rw (next, add-one);
+                same = g .same ∙ items-passed base board verdicts (s .items) (rw place-is at there) item-word few (rw place-is at (sym (stepped .finding) ∙ none)) ∙ rw (next, add-one);
                 index-size = li ∙ g .index-size;
                 ballots-size = lb ∙ g .ballots-size;
                 parents-size = lp ∙ g .parents-size;

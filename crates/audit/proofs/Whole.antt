@@ -11,7 +11,7 @@ use Rattle.model.specs.Refusal.{noFault, tooLarge, shortTable, emptyBoard}
 use Rattle.model.specs.Audit.{Outcome, unread, refused, accepted, audit, items, itemLimit, wordLimit, indexNeed, ballotNeed, isEmpty}
 use Rattle.model.specs.Report as model
 use Rattle.model.specs.Report.{reportOf, tableAfter, indexAfter, ballotsAfter}
-use Rattle.model.proofs.Acceptance.{refused-stopped}
+use Rattle.model.proofs.Acceptance.{refused-some}
 use Rattle.model.proofs.Unchecked.{accepted-history}
 use Rattle.refusal.specs.Number.{numberOf}
 use Rattle.chains.specs.Chain.{chainWords, chain}
@@ -44,9 +44,9 @@ module _ (board verdicts index ballots : List ℕ) where
   abbrev pub outcome : Outcome
   outcome = audit base board verdicts (length index) (length ballots)
 
-  -- what the items give, with so many words in the ballot table
-  abbrev answer : ℕ → Outcome
-  answer room = items base board verdicts room itemLimit [] 0
+  -- what the items give
+  abbrev answer : Outcome
+  answer = items base board verdicts itemLimit [] 0
 
   -- what `audit` ensures of its report and of the tables after it
   abbrev pub Audited : Report → List ℕ → List ℕ → Type 0
@@ -94,7 +94,7 @@ module _ (board verdicts index ballots : List ℕ) where
 
     -- ---- the items
 
-    audit-items : isEmpty board ≡ false → outcome ≡ items base board verdicts (length ballots) itemLimit [] 0
+    audit-items : isEmpty board ≡ false → outcome ≡ answer
     unfolding audit if_then_else_
     audit-items q = rw (le-ltb _ _ (sized .fewWords), le-ltb _ _ (sized .wide), le-ltb _ _ (sized .roomy), q)
 
@@ -109,12 +109,12 @@ module _ (board verdicts index ballots : List ℕ) where
         absurd (omega (arith, number-some x))
 
     -- a refusal, and both tables are cleared
-    pub audited-cleared : isEmpty board ≡ false → (room : ℕ) → length ballots ≡ room → (i b : List ℕ) → Holds board (answer room) i b
-        → (r : Report) → reported r ≡ reportOf base (answer room) → {x : Refusal} {k : ℕ} → r .answer ≡ Refused x k
+    pub audited-cleared : isEmpty board ≡ false → (i b : List ℕ) → Holds board answer i b
+        → (r : Report) → reported r ≡ reportOf base answer → {x : Refusal} {k : ℕ} → r .answer ≡ Refused x k
         → {i′ b′ : List ℕ} (m n : ℕ) → i′ ≡ replicate m 0 → b′ ≡ replicate n 0 → m ≡ length index → n ≡ length ballots → Audited r i′ b′
-    audited-cleared q room e i b held r told a m n ei eb em en =
-        let (ci, cb) = cleared (answer room) i b held r told a in
-        rw (audit-items q, e) (told, (rw em at ei ∙ sym ci, rw en at eb ∙ sym cb))
+    audited-cleared q i b held r told a m n ei eb em en =
+        let (ci, cb) = cleared answer i b held r told a in
+        rw (audit-items q) (told, (rw em at ei ∙ sym ci, rw en at eb ∙ sym cb))
 
     filled-tables : (o : Outcome) → outcome ≡ o → (i b : List ℕ) → Holds board o i b → (r : Report) → reported r ≡ reportOf base o
         → {items mains n weight : ℕ} → r .answer ≡ Accepted items mains n weight → length i ≡ length index → length b ≡ length ballots
@@ -123,17 +123,16 @@ module _ (board verdicts index ballots : List ℕ) where
     filled-tables (unread n) e i b held r told a li lb = absurd held
     filled-tables (refused n k) e i b held r told a li lb =
         let number = sym (accepted-number r a) ∙ ap (λ (m : model.Report). m .number) told in
-        let some = refused-stopped base board verdicts (length index) (length ballots) n k e .number .0 in
+        let some = refused-some base board verdicts (length index) (length ballots) n k e in
         absurd (omega arith)
     filled-tables (accepted h) e i b held r told a li lb =
         let same : before board (length h) ≡ h = sym (accepted-history base board verdicts (length index) (length ballots) h e) in
         (rw (same, li) at (held .0 .rows), rw (same, lb) at (held .1 .rows))
 
     -- acceptance, and the tables hold the rows
-    pub audited-filled : isEmpty board ≡ false → (room : ℕ) → length ballots ≡ room → (i b : List ℕ) → Holds board (answer room) i b
-        → (r : Report) → reported r ≡ reportOf base (answer room) → {items mains n weight : ℕ} → r .answer ≡ Accepted items mains n weight
+    pub audited-filled : isEmpty board ≡ false → (i b : List ℕ) → Holds board answer i b
+        → (r : Report) → reported r ≡ reportOf base answer → {items mains n weight : ℕ} → r .answer ≡ Accepted items mains n weight
         → length i ≡ length index → length b ≡ length ballots → Audited r i b
-    audited-filled q room e i b held r told a li lb =
-        let is : outcome ≡ answer room = audit-items q ∙ ap answer e in
-        let (fi, fb) = filled-tables (answer room) is i b held r told a li lb in
-        rw is (told, (fi, fb))
+    audited-filled q i b held r told a li lb =
+        let is = audit-items q in
+        rw is (told, filled-tables answer is i b held r told a li lb)

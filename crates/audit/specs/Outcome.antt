@@ -17,5 +17,5 @@ outcomeOf board verdicts index ballots =
     audit base (now (board .entry)) (now (verdicts .entry)) (length (now (index .entry))) (length (now (ballots .entry)))
 
 -- what reading its items gives, from the first one on
-abbrev pub itemsOutcome : {A B C : Type 0} → Slice A → Slice B → Slice C → Outcome
-itemsOutcome board verdicts ballots = items base (now (board .entry)) (now (verdicts .entry)) (length (now (ballots .entry))) itemLimit [] 0
+abbrev pub itemsOutcome : {A B : Type 0} → Slice A → Slice B → Outcome
+itemsOutcome board verdicts = items base (now (board .entry)) (now (verdicts .entry)) itemLimit [] 0

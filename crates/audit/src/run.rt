@@ -38,8 +38,8 @@ fn run(
 ) -> Report
     requires { ⌜ (Sized (now board) (now index) (now ballots)) × (Zeros (now index)) × (Zeros (now ballots)) ⌝ }
     requires { ⌜ (now parents ≡ parentChain (now board) 0) × (now sessions ≡ sessionChain (now board) 0) ⌝ }
-    ensures answer { λ r. ⌜ reported r ≡ reportOf base (itemsOutcome board verdicts ballots) ⌝ }
-    ensures tables { λ _. ⌜ Holds (now (board .entry)) (itemsOutcome board verdicts ballots) (now (index .exit)) (now (ballots .exit)) ⌝ }
+    ensures answer { λ r. ⌜ reported r ≡ reportOf base (itemsOutcome board verdicts) ⌝ }
+    ensures tables { λ _. ⌜ Holds (now (board .entry)) (itemsOutcome board verdicts) (now (index .exit)) (now (ballots .exit)) ⌝ }
 {
     let mut s = State::new();
     loop {

@@ -78,7 +78,7 @@ returns-2 c =
     let start = at-clear .before .before .before .before .before .before in
     let x = start .args in
     audited-cleared (x .board .now) (x .verdicts .now) (x .index .now) (x .ballots .now) (start .pre)
-    (sym (at-is-empty .is-empty .ensures) ∙ one .if1 .left) _ (sym (at-clear2 .clear2 .kept .0)) _ _ (at-run .run .ensures .1)
+    (sym (at-is-empty .is-empty .ensures) ∙ one .if1 .left) _ _ (at-run .run .ensures .1)
     (at-run .run .result) (at-run .run .ensures .0) (at-enum-told .enum-told .given .1) _ _
     (at-clear3 .clear3 .ensures) (c .before .before .clear4 .ensures) (at-run .run .kept .1 .1 .0 ∙ at-clear .clear .kept .0)
     (at-run .run .kept .1 .1 .1 .0 ∙ at-clear2 .clear2 .kept .0)
@@ -99,7 +99,7 @@ returns-3 c =
     let start = at-clear .before .before .before .before .before .before in
     let x = start .args in
     audited-filled (x .board .now) (x .verdicts .now) (x .index .now) (x .ballots .now) (start .pre)
-    (sym (at-is-empty .is-empty .ensures) ∙ one .if1 .left) _ (sym (at-clear2 .clear2 .kept .0)) _ _ (at-run .run .ensures .1)
+    (sym (at-is-empty .is-empty .ensures) ∙ one .if1 .left) _ _ (at-run .run .ensures .1)
     (at-run .run .result) (at-run .run .ensures .0) (c .enum-told2 .given .1)
     (at-run .run .kept .1 .1 .0 ∙ at-clear .clear .kept .0) (at-run .run .kept .1 .1 .1 .0 ∙ at-clear2 .clear2 .kept .0)
 
