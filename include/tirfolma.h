@@ -20,14 +20,15 @@ extern "C" {
 
 /* ---- audit */
 
-/* Words of the answer, of an index table for every board, and of a ballot table for every board. */
+/* Words of the answer, of an index table for every board, and of a ballot table for every board: three for each counted ballot, and no board
+   has more than 408 of those. */
 #define TIRFOLMA_AUDIT_WORDS 14
 #define TIRFOLMA_INDEX_WORDS 8192
-#define TIRFOLMA_BALLOT_WORDS 6144
+#define TIRFOLMA_BALLOT_WORDS (3 * 408)
 
 /* Where the answer's words stand. */
 enum {
-    TIRFOLMA_NUMBER = 0,      /* 0: accepted; 1 to 18: the refusal */
+    TIRFOLMA_NUMBER = 0,      /* 0: accepted; 1 to 16, or 18: the refusal (17 is not used) */
     TIRFOLMA_ITEMS = 1,       /* items; of a refusal, those that passed */
     TIRFOLMA_MAINS = 2,       /* main items */
     TIRFOLMA_BALLOTS = 3,     /* counted ballots */
@@ -45,7 +46,7 @@ enum {
      accepted, the index table                      for each item: place of its head, parent's item number, session's item number
                                                     (4294967295: none), main items before it; then zeros
      accepted, the ballot table                     for each counted ballot: main number of the ballot, voter, weight; then zeros
-   An index table of fewer than 8192 words or a ballot table of fewer than 6144 is refused by 2.
+   An index table of fewer than 8192 words or a ballot table of fewer than 1224 is refused by 2.
 
    False: the answer has fewer than 14 words. No word of any buffer is written.
 
@@ -65,7 +66,7 @@ bool tirfolma_audit(
 enum {
     TIRFOLMA_KIND = 0,           /* one of the kinds below */
     TIRFOLMA_BOARD = 1,          /* of a refusal: 0 for the kept board, 1 for the later one */
-    TIRFOLMA_COMPARE_NUMBER = 2, /* of a refusal: 1 to 19 */
+    TIRFOLMA_COMPARE_NUMBER = 2, /* of a refusal: 1 to 16, 18 or 19 */
     TIRFOLMA_COMPARE_ITEMS = 3,  /* of a refusal: the items that passed */
     TIRFOLMA_KEPT_MAIN = 4,      /* of a collision: the main number in the kept board */
     TIRFOLMA_LATER_MAIN = 5      /* and in the later one */
@@ -105,7 +106,7 @@ bool tirfolma_compare(
 
 /* Where the answer's words stand. */
 enum {
-    TIRFOLMA_ANCESTRY_NUMBER = 0, /* 0: listed; 1 to 19: the refusal */
+    TIRFOLMA_ANCESTRY_NUMBER = 0, /* 0: listed; 1 to 16, 18 or 19: the refusal */
     TIRFOLMA_ANCESTRY_COUNT = 1   /* how many numbers were written; of a refusal, the items that passed */
 };
 

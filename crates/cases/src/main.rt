@@ -1,6 +1,5 @@
 // Audits the boards of data/ and writes what is answered of each, as the auditing program prints it. data/index.txt says what each board
-// is: one for each refusal and reason, and sound ones. Refusals 1 and 2 come from boards and tables of their own; 17 comes from none, since
-// no more ballots are counted than there are items, and the ballot table has room for that many rows.
+// is: one for each refusal and reason, and sound ones. Refusals 1 and 2 come from boards and tables of their own; 17 is not used.
 ghost use mathlib.Core.Path.{_≡_};
 ghost use Prim.Native.Nat.{_+_, _%_, _≤_};
 ghost use Rattle.io.specs.Counts.{Counts};

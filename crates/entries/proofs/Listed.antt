@@ -16,7 +16,7 @@ use Rattle.model.specs.Report.{tableAfter, indexAfter, ballotsAfter}
 use Rattle.model.specs.Ancestry.{listNeed, ancestryAudit, AncestryAnswer, unlisted, ancestryAnswer, listAfter}
 use Rattle.model.specs.Reasons.{startReasons}
 use Rattle.model.proofs.Tests.{by-test, tests, neither, passes}
-use Rattle.model.proofs.Acceptance.{unread-number}
+use Rattle.model.proofs.Acceptance.{unread-some}
 use Rattle.model.proofs.FirstReason.{firstNumber, first-number}
 use Rattle.model.proofs.ByNumber.{unread-reason}
 use Rattle.model.proofs.Listing.{too-large, short-buffer, as-audited}
@@ -81,7 +81,7 @@ module _ (board verdicts index ballots list : List ℕ) (s : Sized board index b
   unfolding firstNumber startReasons if_then_else_
   not-unread n e =
       let (reason, other) = unread-reason base board verdicts (length index) (length ballots) n .0 e in
-      let some = unread-number base board verdicts (length index) (length ballots) n e in
+      let some = unread-some base board verdicts (length index) (length ballots) n e in
       let large = le-ltb wordLimit (length board) (s .few) in
       let wide = le-ltb (length index) indexNeed (s .wide) in
       let roomy = le-ltb (length ballots) ballotNeed (s .roomy) in

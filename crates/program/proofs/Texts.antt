@@ -13,7 +13,7 @@ use Rattle.model.specs.Audit.{Outcome, unread, refused, accepted, audit, ballot
 use Rattle.model.specs.Report.{Report, reportOf, ballotsAfter}
 use Rattle.model.specs.Program.{fromBytes, bytesPerWord, programLimit, verdictLimit, textOf, sized, programOutcome, printed}
 use Rattle.model.proofs.Report.{audit-numbered}
-use Rattle.model.proofs.Votes.{counted-few}
+use Rattle.model.proofs.Bound.{few-ballots}
 use Rattle.sha256_block.specs.Fips.{sha256Words}
 use Rattle.model.proofs.Acceptance.{accepted↔sound}
 use Rattle.model.proofs.Program.{length-from-bytes, base-least}
@@ -44,7 +44,7 @@ rows-fit-in : (f : Format) (ws vs : List ℕ) (i b : ℕ) (o : Outcome) → ball
 unfolding reportOf
 rows-fit-in f ws vs i b (unread n) h e = omega arith
 rows-fit-in f ws vs i b (refused n k) h e = omega arith
-rows-fit-in f ws vs i b (accepted g) h e = let s = accepted↔sound f ws vs i b g .0 e in omega (arith, counted-few g, s .0 .few)
+rows-fit-in f ws vs i b (accepted g) h e = let s = accepted↔sound f ws vs i b g .0 e .0 in omega (arith, few-ballots (s .passed) (s .few))
 
 pub rows-fit : (f : Format) (ws vs : List ℕ) (i b : ℕ) (r : Report) → r ≡ reportOf f (audit f ws vs i b) → ballotNeed ≤ b → ballotRow * r .ballots ≤ b
 rows-fit f ws vs i b r e h = rw e (rows-fit-in f ws vs i b (audit f ws vs i b) h refl)

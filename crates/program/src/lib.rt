@@ -24,7 +24,7 @@ pub const BOARD: usize = Sizes::WORD * Sizes::BOARD;
 pub const VERDICTS: usize = Sizes::WORD * Sizes::VERDICTS;
 
 // Room for any text: a line for the board, and a line for each row that the ballot table has room for.
-pub const TEXT: usize = LINE * (1 + Limit::ITEMS);
+pub const TEXT: usize = LINE * (1 + Limit::COUNTED);
 
 // The text of a report, with the ballot table.
 fn report_text(out: &mut [u8], report: Report, table: &[u32]) -> usize
