@@ -3,16 +3,16 @@ use Prim.Native.Nat.{ℕ, zero, suc, _≤_, _<_}
 use native.Mathlib.Nat.{le-of-suc-le-suc, not-suc-le-zero}
 use native.Mathlib.Omega.{arith}
 use native.Mathlib.Decide.{decLe}
-use mathlib.Core.Path.{_≡_, sym, ap, _∙_}
+use mathlib.Core.Path.{_≡_, sym}
 use mathlib.Core.Logic.{by-cases}
-use mathlib.Core.Bool.{Bool, _&&_, _||_}
+use mathlib.Core.Bool.{Bool, _||_}
 use mathlib.Core.List.{List, [], _∷_}
 use lib.ListN.{length, getD, take}
 use lib.Dec.{T, eqb, eqb→eq}
 use Rattle.model.specs.Lists.{any}
 use Rattle.model.specs.Words.{between}
 use Rattle.model.specs.Format.{Format}
-use Rattle.model.specs.Item.{Item, code}
+use Rattle.model.specs.Item.{code}
 use Rattle.model.specs.History.{History, Entry, absent, entry, itemNo, typed, parentNumber}
 use Rattle.model.specs.Only.{childOf, onBoardOk, underParentOk, underBallotOk}
 use Rattle.model.specs.Sound.{Meets, Passed}

@@ -1,6 +1,6 @@
 -- Every answer for its reason: which of the paper's conditions is the first to apply, and where, with no word of how an audit goes on.
 -- Paper: "Refusals and their order". Assumes nothing.
-use Prim.Native.Nat.{ℕ, _*_, _≤_, _<_}
+use Prim.Native.Nat.{ℕ, _≤_, _<_}
 use mathlib.Core.Path.{_≡_}
 use mathlib.Core.Logic.{_≢_}
 use mathlib.Core.Bool.{Bool, true, false, not}

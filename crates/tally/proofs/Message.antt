@@ -15,7 +15,7 @@ use Rattle.model.specs.Format.{Format}
 use Rattle.model.specs.History.{History, Entry, absent, entry, itemNo, main, mainNumber, typed}
 use Rattle.model.specs.Counted.{Vote, voteOf, votesIn, sameVoter, counted, contents}
 use Rattle.model.specs.Sound.{Passed}
-use Rattle.model.specs.Audit.{itemLimit, ballotRow}
+use Rattle.model.specs.Audit.{ballotRow}
 use Rattle.model.proofs.Tests.{by-test, is-true}
 use Rattle.model.proofs.Lists.{Every, every-at, every-keep, every-latest}
 use Rattle.model.proofs.Entries.{Fine, orderly, each-fine, typed-main}

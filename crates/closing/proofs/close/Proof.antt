@@ -2,7 +2,6 @@
 use native.Mathlib.Omega.{arith}
 use borrow.Author.Tests.{not-true, not-false}
 use mathlib.Core.Path.{sym, ap, _∙_}
-use lib.ListN.{length}
 use Rattle.model.specs.Report.{reportOf}
 use Rattle.format.specs.Base.{base}
 use Rattle.state.proofs.Step.{mains-few}
