@@ -18,6 +18,7 @@ pub struct Report {
 /// The first reason to refuse a board, and the items passed before it.
 #[derive(Clone, Copy, PartialEq, Eq, Debug)]
 pub struct Refusal {
+    /// As the paper numbers them. 17 is not in use.
     pub number: u32,
     pub items: usize,
 }
@@ -162,7 +163,7 @@ pub fn audit_with(
     }
     index.fill(0);
     ballots.fill(0);
-    match walk(hash, board, verdicts, ballots.len()) {
+    match walk(hash, board, verdicts) {
         Err(refusal) => (refused(refusal.number, refusal.items), None),
         Ok(history) => {
             write_index(&history, index);
@@ -197,6 +198,8 @@ fn write_index(history: &History, index: &mut [u32]) {
 }
 
 fn write_ballots(history: &History, ballots: &mut [u32]) {
+    // The table has a row for each: by the bound a board cannot count more ballots.
+    assert!(history.counted.len() <= MAX_BALLOTS && ballots.len() >= BALLOTS_NEED);
     for (counted, row) in history.counted.iter().zip(ballots.chunks_mut(BALLOT_ROW)) {
         row[0] = history.item(counted.ballot).mains_before as u32 + 1;
         row[1] = counted.voter;
@@ -205,7 +208,7 @@ fn write_ballots(history: &History, ballots: &mut [u32]) {
 }
 
 /// Refusals 3 and up.
-fn walk(hash: Hash, board: &[u32], verdicts: &[u32], ballots_len: usize) -> Result<History, Refusal> {
+fn walk(hash: Hash, board: &[u32], verdicts: &[u32]) -> Result<History, Refusal> {
     if board.is_empty() || kind(board[0]) == CLOSING {
         return Err(Refusal { number: 3, items: 0 });
     }
@@ -222,9 +225,6 @@ fn walk(hash: Hash, board: &[u32], verdicts: &[u32], ballots_len: usize) -> Resu
             let number = (head & 0x0fff_ffff) as usize;
             if number != items || place + 1 != board.len() || verdicts.len() > VERDICT_WORDS * items {
                 return refuse(18);
-            }
-            if history.counted.len() * BALLOT_ROW > ballots_len {
-                return refuse(17);
             }
             return Ok(history);
         }

@@ -276,7 +276,8 @@ fn cases(options: &Options, with: Option<Interface>) {
     let least = total.by_reason.values().min().copied().unwrap_or(0);
     let reasons = Makers::default().faults.len();
     println!("           by reason   {} of {reasons}, each at least {least} times", total.by_reason.len());
-    let missing = (1..=18).filter(|n| ![2, 17].contains(n) && !total.by_number.contains_key(n)).count();
+    // All but 2, which takes a short table whatever the board is.
+    let missing = [1].into_iter().chain(3..=16).chain([18]).filter(|n| !total.by_number.contains_key(n)).count();
     if options.cases >= 5_000 && (missing > 0 || total.by_reason.len() < reasons) {
         fail("some refusal or reason was not made");
     }
