@@ -198,8 +198,10 @@ fn write_index(history: &History, index: &mut [u32]) {
 }
 
 fn write_ballots(history: &History, ballots: &mut [u32]) {
-    // The table has a row for each: by the bound a board cannot count more ballots.
-    assert!(history.counted.len() <= MAX_BALLOTS && ballots.len() >= BALLOTS_NEED);
+    // The bound, and its reason: five main items for each, five before the first session.
+    let count = history.counted.len();
+    assert!(count <= MAX_BALLOTS && ballots.len() >= BALLOT_ROW * count, "every row has its place");
+    assert!(count == 0 || 5 + 5 * count <= history.mains(), "every counted ballot has items of its own");
     for (counted, row) in history.counted.iter().zip(ballots.chunks_mut(BALLOT_ROW)) {
         row[0] = history.item(counted.ballot).mains_before as u32 + 1;
         row[1] = counted.voter;

@@ -4,6 +4,7 @@
 use crate::ancestry::ancestry;
 use crate::audit::audit;
 use crate::compare::{compare, Board, Tables};
+use crate::crowded::crowded;
 use crate::damage::{damage_plan, damage_words, no_board};
 use crate::faults::{faults, rank, spoil_more, Fault};
 use crate::format::*;
@@ -49,9 +50,12 @@ pub enum Group {
     Words,
     /// Long boards, and the limits.
     Long,
+    /// As many counted ballots as there can be, or nearly.
+    Full,
 }
 
-pub const GROUPS: [Group; 6] = [Group::Sound, Group::Faults, Group::Order, Group::Rules, Group::Words, Group::Long];
+pub const GROUPS: [Group; 7] =
+    [Group::Sound, Group::Faults, Group::Order, Group::Rules, Group::Words, Group::Long, Group::Full];
 
 pub fn group_named(name: &str) -> Option<Group> {
     GROUPS.into_iter().find(|g| format!("{g:?}").eq_ignore_ascii_case(name))
@@ -183,6 +187,7 @@ pub fn case(makers: &Makers, group: Group, seed: u64) -> Case {
             case
         }
         Group::Long => long_case(&name, seed, random),
+        Group::Full => full_case(makers, &name, seed, random),
     }
 }
 
@@ -264,14 +269,139 @@ fn long_case(name: &dyn Fn(&str) -> String, seed: u64, random: &mut Random) -> C
     case
 }
 
+/// The voters of a full board: with five items each, five before them and an extraction's three
+/// behind, they make 2,048.
+const FULL: usize = 408;
+
+/// A board of 2,048 items with 408 counted ballots, or fewer where voters cast again; sound, or
+/// with one thing wrong.
+fn full_case(makers: &Makers, name: &dyn Fn(&str) -> String, seed: u64, random: &mut Random) -> Case {
+    let board = |items: usize, voters: usize, extraction: bool, random: &mut Random| {
+        let made = crowded(random, Shape { items, words: None, long: 20, voters, extraction });
+        assert_eq!(made.expected.ballots.len(), voters, "each voter counts once");
+        made
+    };
+    let (which, turn) = (seed % 8, seed / 8);
+    if which == 1 || which == 7 {
+        let fewer = random.between(380, FULL - 2);
+        let voters = if which == 1 { FULL - 1 } else { *random.pick(&[FULL / 2, fewer, fewer]) };
+        let made = board(MAX_ITEMS, voters, random.chance(60), random);
+        let casts = made.plan.items.iter().filter(|s| s.code == CAST).count();
+        assert!(casts > voters, "some voter casts again");
+        return sound_case(name("full, cast again"), &made, random);
+    }
+    if which == 3 && turn % 2 == 1 {
+        let made = board(5 + 5 * (FULL + 1), FULL + 1, false, random);
+        let known = Known::Refused(1, MAX_ITEMS);
+        return faulty_case(name("full, a voter too many"), &made, &made.plan, known, random);
+    }
+    // Without an extraction there is room for three items that cast nothing.
+    let made = board(MAX_ITEMS, FULL, which != 2, random);
+    match which {
+        3 => {
+            // Another intent, with all that it needs.
+            let mut plan = made.plan.clone();
+            let mut intent = plan.items[MAX_ITEMS - 3].clone();
+            intent.time = plan.items[MAX_ITEMS - 1].time;
+            plan.items.push(intent);
+            faulty_case(name("full, an item too many"), &made, &plan, Known::Refused(1, MAX_ITEMS), random)
+        }
+        4 if turn % 5 == 1 => {
+            let mut plan = made.plan.clone();
+            plan.closing = Some(None);
+            faulty_case(name("full, no closing word"), &made, &plan, Known::Refused(4, MAX_ITEMS), random)
+        }
+        4 | 6 => loop {
+            let fault = random.pick(&makers.faults);
+            let at_close = fault.number == 18;
+            // Every other one of those before the close is about all counted ballots.
+            if at_close != (which == 4) || !at_close && turn % 2 == 0 && !fault.reason.contains("fingerprint") {
+                continue;
+            }
+            let Some(faulty) = fault.apply(&made, random) else { continue };
+            // An item put behind the last one would be over the limit.
+            if at_close != (faulty.items == MAX_ITEMS) {
+                continue;
+            }
+            let what = format!("full, {}", fault.reason);
+            let known = Known::Refused(faulty.number, faulty.items);
+            return faulty_case(name(&what), &made, &faulty.plan, known, random);
+        },
+        5 => {
+            let mut case = sound_case(name("full, a bit turned over"), &made, random);
+            turn_bit(&mut case, turn, random);
+            case
+        }
+        _ => sound_case(name("full"), &made, random),
+    }
+}
+
+/// Turns a bit of a sound board over, in a part that goes by turns, and notes what it is then.
+/// Not in a head, where what it is depends on the bit.
+fn turn_bit(case: &mut Case, turn: u64, random: &mut Random) {
+    let Known::Sound(_, places, _) = &case.known else { panic!("a sound board") };
+    let (items, bit) = (places.len(), random.below(32));
+    let at = random.below(items);
+    let place = places[at];
+    let signature = place + count(case.words[place]) + HASHED_FRAME;
+    let verdict = at * VERDICT_WORDS;
+    let (on_board, word, refusal) = match turn % 5 {
+        0 => (true, random.between(place + 1, signature - 1), Some((7, at))),
+        1 => (true, signature + random.below(16), None),
+        2 => (true, signature + 16 + random.below(8), Some((7, at))),
+        3 => (true, case.words.len() - 1, Some(if bit < 28 { (18, items) } else { (1, items) })),
+        _ => {
+            let word = random.below(VERDICT_WORDS);
+            let number = match (word, bit) {
+                (0, 0) => 16,
+                (0, _) => 14,
+                _ => 15,
+            };
+            (false, verdict + word, Some((number, at)))
+        }
+    };
+    let words = if on_board { &mut case.words } else { &mut case.verdicts };
+    words[word] ^= 1 << bit;
+    // The signature's own words are not looked at.
+    if let Some((number, items)) = refusal {
+        case.known = Known::Refused(number, items);
+    }
+}
+
 // ---- the reference against what is known ----
 
 /// Audits a case with the reference and holds the answer against the making. Gives the number.
 pub fn check_known(case: &Case) -> Result<u32, String> {
-    let (mut index, mut ballots) = (vec![0xdead; INDEX_NEED + 5], vec![0xbeef; BALLOTS_NEED + 4]);
+    check_known_with(case, INDEX_NEED + 5, BALLOTS_NEED + 4, &case.known)
+}
+
+/// The same with a ballot table of 1,224 words, and of one less, which is refused. Gives whether
+/// the counted ballots fill the table.
+pub fn check_full(case: &Case) -> Result<bool, String> {
+    check_known_with(case, INDEX_NEED, 1_224, &case.known)?;
+    check_known_with(case, INDEX_NEED, 1_223, &Known::Refused(2, 0))?;
+    let Known::Sound(expected, ..) = &case.known else { return Ok(false) };
+    if expected.ballots.len() < FULL {
+        return Ok(false);
+    }
+    let (mut index, mut ballots) = (vec![0; INDEX_NEED], vec![0; 1_224]);
+    let report = audit(&case.words, &case.verdicts, &mut index, &mut ballots);
+    // The last word is a weight, which is at least 1; so is a ballot's main number.
+    let all_used = ballots.chunks(BALLOT_ROW).all(|row| row[0] != 0 && row[2] != 0);
+    if report.ballots as usize != FULL || !all_used || ballots[1_223] == 0 {
+        return Err(format!("{}: 408 ballots do not fill the table", case.name));
+    }
+    if report.weight <= u64::from(u32::MAX) {
+        return Err(format!("{}: the weight was to need more than 32 bits", case.name));
+    }
+    Ok(true)
+}
+
+fn check_known_with(case: &Case, index_len: usize, ballots_len: usize, known: &Known) -> Result<u32, String> {
+    let (mut index, mut ballots) = (vec![0xdead; index_len], vec![0xbeef; ballots_len]);
     let report = audit(&case.words, &case.verdicts, &mut index, &mut ballots);
     let fail = |what: &str| Err(format!("{}: the reference has {what} other than it was made", case.name));
-    match &case.known {
+    match known {
         Known::Nothing => {}
         Known::Refused(number, items) => {
             if (report.number, report.items as usize) != (*number, *items) {
@@ -280,7 +410,7 @@ pub fn check_known(case: &Case) -> Result<u32, String> {
                     case.name, report.number, report.items
                 ));
             }
-            let untouched = *number == 1 && *items == 0;
+            let untouched = *number == 2 || *number == 1 && *items == 0;
             let (i, b) = if untouched { (0xdead, 0xbeef) } else { (0, 0) };
             if index.iter().any(|&w| w != i) || ballots.iter().any(|&w| w != b) {
                 return fail("tables");
@@ -430,10 +560,42 @@ fn result(entry: &str, given: bool, expected: bool) -> Result<(), String> {
 /// 22 collision. 23: an answer buffer too short.
 pub type Tally = [usize; 24];
 
-pub fn check_audit(with: &Interface, case: &Case, random: &mut Random, tally: &mut Tally) -> Result<(), String> {
-    let mut index = Lent::new(lent_length(INDEX_NEED, random), random);
-    let mut ballots = Lent::new(lent_length(BALLOTS_NEED, random), random);
-    let mut answer = Lent::new(answer_length(AUDIT_ANSWER, random), random);
+/// A check of one entry. Nothing is tallied where the library has no such entry.
+pub type Check = fn(&Interface, &Case, &mut Random, &mut Tally) -> Result<(), String>;
+
+/// Every entry, with tables of any length.
+pub const ANY_LENGTH: [Check; 3] = [check_audit, check_compare, check_ancestry];
+
+/// Every entry, with ballot tables of just the words they need, of one word less, and of more.
+pub const FULL_LENGTHS: [Check; 3] = [check_audit_full, check_compare_full, check_ancestry_full];
+
+/// A length that is more than a ballot table needs.
+fn longer(random: &mut Random) -> usize {
+    *random.pick(&[BALLOTS_NEED + 1, BALLOTS_NEED + BALLOT_ROW, 2_000, 6_144])
+}
+
+fn check_audit(with: &Interface, case: &Case, random: &mut Random, tally: &mut Tally) -> Result<(), String> {
+    let (index, ballots) = (lent_length(INDEX_NEED, random), lent_length(BALLOTS_NEED, random));
+    let answer = answer_length(AUDIT_ANSWER, random);
+    audit_lent(with, case, [index, ballots, answer], random, tally)
+}
+
+fn check_audit_full(with: &Interface, case: &Case, random: &mut Random, tally: &mut Tally) -> Result<(), String> {
+    for ballots in [BALLOTS_NEED, BALLOTS_NEED - 1, longer(random)] {
+        audit_lent(with, case, [INDEX_NEED, ballots, AUDIT_ANSWER], random, tally)?;
+    }
+    Ok(())
+}
+
+/// The lengths are of the index table, the ballot table and the answer.
+fn audit_lent(
+    with: &Interface,
+    case: &Case,
+    lengths: [usize; 3],
+    random: &mut Random,
+    tally: &mut Tally,
+) -> Result<(), String> {
+    let [mut index, mut ballots, mut answer] = lengths.map(|len| Lent::new(len, random));
     let enough = answer.len() >= AUDIT_ANSWER;
     if enough {
         let report = audit(&case.words, &case.verdicts, &mut index.reference, &mut ballots.reference);
@@ -476,13 +638,29 @@ fn item_count(case: &Case) -> usize {
     case.verdicts.len() / VERDICT_WORDS
 }
 
-/// Nothing is tallied where the library has no such entry.
-pub fn check_ancestry(with: &Interface, case: &Case, random: &mut Random, tally: &mut Tally) -> Result<(), String> {
+fn check_ancestry(with: &Interface, case: &Case, random: &mut Random, tally: &mut Tally) -> Result<(), String> {
+    let (index, ballots) = (lent_length(INDEX_NEED, random), lent_length(BALLOTS_NEED, random));
+    let (list, answer) = (lent_length(LIST_NEED, random), answer_length(ANCESTRY_ANSWER, random));
+    ancestry_lent(with, case, [index, ballots, list, answer], random, tally)
+}
+
+fn check_ancestry_full(with: &Interface, case: &Case, random: &mut Random, tally: &mut Tally) -> Result<(), String> {
+    for ballots in [BALLOTS_NEED, BALLOTS_NEED - 1, longer(random)] {
+        ancestry_lent(with, case, [INDEX_NEED, ballots, LIST_NEED, ANCESTRY_ANSWER], random, tally)?;
+    }
+    Ok(())
+}
+
+/// The lengths are of the index table, the ballot table, the list and the answer.
+fn ancestry_lent(
+    with: &Interface,
+    case: &Case,
+    lengths: [usize; 4],
+    random: &mut Random,
+    tally: &mut Tally,
+) -> Result<(), String> {
     let Some(entry) = with.ancestry else { return Ok(()) };
-    let mut index = Lent::new(lent_length(INDEX_NEED, random), random);
-    let mut ballots = Lent::new(lent_length(BALLOTS_NEED, random), random);
-    let mut list = Lent::new(lent_length(LIST_NEED, random), random);
-    let mut answer = Lent::new(answer_length(ANCESTRY_ANSWER, random), random);
+    let [mut index, mut ballots, mut list, mut answer] = lengths.map(|len| Lent::new(len, random));
     let number = asked(item_count(case), random);
     let enough = answer.len() >= ANCESTRY_ANSWER;
     let (words, verdicts) = (&case.words, &case.verdicts);
@@ -509,8 +687,37 @@ pub fn check_ancestry(with: &Interface, case: &Case, random: &mut Random, tally:
     ballots.same("ballot table").map_err(told)
 }
 
-/// Nothing is tallied where the library has no such entry.
-pub fn check_compare(with: &Interface, case: &Case, random: &mut Random, tally: &mut Tally) -> Result<(), String> {
+fn check_compare(with: &Interface, case: &Case, random: &mut Random, tally: &mut Tally) -> Result<(), String> {
+    // Four buffers: one too short is enough now and then.
+    let tables = [INDEX_NEED, BALLOTS_NEED, INDEX_NEED, BALLOTS_NEED].map(|need| {
+        if random.chance(60) {
+            need
+        } else {
+            lent_length(need, random)
+        }
+    });
+    let answer = answer_length(COMPARE_ANSWER, random);
+    compare_lent(with, case, tables, answer, random, tally)
+}
+
+fn check_compare_full(with: &Interface, case: &Case, random: &mut Random, tally: &mut Tally) -> Result<(), String> {
+    let need = BALLOTS_NEED;
+    let more = longer(random);
+    for (kept, later) in [(need, need), (need - 1, need), (need, need - 1), (more, more)] {
+        compare_lent(with, case, [INDEX_NEED, kept, INDEX_NEED, later], COMPARE_ANSWER, random, tally)?;
+    }
+    Ok(())
+}
+
+/// The lengths are of the kept board's two tables, the later one's, and the answer.
+fn compare_lent(
+    with: &Interface,
+    case: &Case,
+    lengths: [usize; 4],
+    answer_len: usize,
+    random: &mut Random,
+    tally: &mut Tally,
+) -> Result<(), String> {
     let Some(entry) = with.compare else { return Ok(()) };
     let own = (&case.words, &case.verdicts);
     let other = (&case.other.0, &case.other.1);
@@ -518,15 +725,9 @@ pub fn check_compare(with: &Interface, case: &Case, random: &mut Random, tally: 
     // Often the number at which the kept board's end can stand.
     let mains = |board: &(&Vec<u32>, &Vec<u32>)| main_count(board.0);
     let number = if random.chance(50) { mains(&kept) } else { asked(mains(&later), random) };
-    let mut tables: Vec<Lent> = Vec::new();
-    for need in [INDEX_NEED, BALLOTS_NEED, INDEX_NEED, BALLOTS_NEED] {
-        // Four buffers: one too short is enough now and then.
-        let len = if random.chance(60) { need } else { lent_length(need, random) };
-        tables.push(Lent::new(len, random));
-    }
-    let mut answer = Lent::new(answer_length(COMPARE_ANSWER, random), random);
+    let [mut ki, mut kb, mut li, mut lb] = lengths.map(|len| Lent::new(len, random));
+    let mut answer = Lent::new(answer_len, random);
     let enough = answer.len() >= COMPARE_ANSWER;
-    let [ki, kb, li, lb] = &mut tables[..] else { unreachable!() };
     if enough {
         let expected = compare(
             Board { words: kept.0, verdicts: kept.1 },
@@ -541,7 +742,6 @@ pub fn check_compare(with: &Interface, case: &Case, random: &mut Random, tally: 
     } else {
         tally[23] += 1;
     }
-    let lengths = [ki.len(), kb.len(), li.len(), lb.len()];
     let al = answer.len();
     #[rustfmt::skip]
     let given = unsafe {

@@ -3,7 +3,7 @@
 //! a comparison word by word over the C interface.
 //!
 //! The rules: `sha256`, `format`, `audit`, `compare`, `ancestry`, `program`.
-//! The boards: `random`, `plan`, `sound`, `faults`, `damage`, `collisions`.
+//! The boards: `random`, `plan`, `sound`, `crowded`, `faults`, `damage`, `collisions`.
 //! The checks: `interface`, `checks`, `stored`.
 
 pub mod ancestry;
@@ -11,6 +11,7 @@ pub mod audit;
 pub mod checks;
 pub mod collisions;
 pub mod compare;
+pub mod crowded;
 pub mod damage;
 pub mod faults;
 pub mod format;

@@ -52,6 +52,12 @@ impl Random {
         &from[self.below(from.len())]
     }
 
+    pub fn shuffle<T>(&mut self, list: &mut [T]) {
+        for end in (1..list.len()).rev() {
+            list.swap(end, self.below(end + 1));
+        }
+    }
+
     /// A set of at least one of the numbers in `set`, which is not empty.
     pub fn subset(&mut self, set: u32) -> u32 {
         assert_ne!(set, 0);

@@ -52,23 +52,24 @@ struct Session {
     position: usize,
 }
 
-struct Maker<'a> {
-    random: &'a mut Random,
+/// A board in the making. `crowded` makes boards of another kind with it.
+pub(crate) struct Maker<'a> {
+    pub(crate) random: &'a mut Random,
     hash: Hash,
     shape: Shape,
-    items: Vec<Spec>,
+    pub(crate) items: Vec<Spec>,
     words: usize,
     expected: Expected,
     /// The time of the last main item.
-    now: u64,
-    administrator: [u32; 8],
-    ballot_box: [u32; 8],
-    authorizer: [u32; 8],
-    contests: u32,
+    pub(crate) now: u64,
+    pub(crate) administrator: [u32; 8],
+    pub(crate) ballot_box: [u32; 8],
+    pub(crate) authorizer: [u32; 8],
+    pub(crate) contests: u32,
     rounds: Vec<Round>,
     trustees: u32,
     threshold: u32,
-    config: usize,
+    pub(crate) config: usize,
     /// Whether an intent to extract stands.
     ended: bool,
     voters: Vec<u32>,
@@ -84,7 +85,7 @@ struct Maker<'a> {
     intents: Vec<usize>,
     extractions: Vec<usize>,
     /// Counted casts: position of the ballot, voter, weight.
-    counted: Vec<(usize, u32, u32)>,
+    pub(crate) counted: Vec<(usize, u32, u32)>,
 }
 
 /// A random sound board of this shape.
@@ -110,45 +111,7 @@ pub fn any_shape(random: &mut Random, most: usize) -> Shape {
 }
 
 fn try_make(random: &mut Random, hash: Hash, shape: Shape) -> Option<Made> {
-    let first_time = match random.below(4) {
-        0 => 0,
-        1 => random.below(5) as u64,
-        2 => 1_790_000_000_000 + random.below(1_000_000_000) as u64,
-        _ => (1 << 32) - random.below(2_000) as u64,
-    };
-    let mut maker = Maker {
-        hash,
-        shape,
-        items: Vec::new(),
-        words: 1,
-        expected: Expected::default(),
-        now: first_time,
-        administrator: random.eight(),
-        ballot_box: random.eight(),
-        authorizer: ZEROS,
-        contests: 0,
-        rounds: Vec::new(),
-        trustees: 0,
-        threshold: 0,
-        config: 0,
-        ended: false,
-        voters: Vec::new(),
-        sessions: Vec::new(),
-        commitments: Vec::new(),
-        answered: Vec::new(),
-        undecided: Vec::new(),
-        untracked: Vec::new(),
-        tracks: Vec::new(),
-        verifiers: Vec::new(),
-        opened: Vec::new(),
-        intents: Vec::new(),
-        extractions: Vec::new(),
-        counted: Vec::new(),
-        random,
-    };
-    if maker.random.chance(4) {
-        maker.ballot_box = maker.administrator;
-    }
+    let mut maker = Maker::new(random, hash, shape);
     for _ in 0..shape.voters.max(1) {
         let voter = if maker.random.chance(80) { maker.random.below(1000) as u32 } else { maker.random.word() };
         maker.voters.push(voter);
@@ -157,14 +120,61 @@ fn try_make(random: &mut Random, hash: Hash, shape: Shape) -> Option<Made> {
     if maker.items.len() != shape.items || shape.words.is_some_and(|w| w != maker.words) {
         return None;
     }
-    let mut expected = maker.expected;
-    for &(ballot, voter, weight) in &maker.counted {
-        expected.ballots.push([expected.rows[ballot][2] + 1, voter, weight]);
-    }
-    Some(Made { plan: Plan::new(maker.items), expected })
+    Some(maker.finish())
 }
 
 impl Maker<'_> {
+    pub(crate) fn new(random: &mut Random, hash: Hash, shape: Shape) -> Maker<'_> {
+        let first_time = match random.below(4) {
+            0 => 0,
+            1 => random.below(5) as u64,
+            2 => 1_790_000_000_000 + random.below(1_000_000_000) as u64,
+            _ => (1 << 32) - random.below(2_000) as u64,
+        };
+        let mut maker = Maker {
+            hash,
+            shape,
+            items: Vec::new(),
+            words: 1,
+            expected: Expected::default(),
+            now: first_time,
+            administrator: random.eight(),
+            ballot_box: random.eight(),
+            authorizer: ZEROS,
+            contests: 0,
+            rounds: Vec::new(),
+            trustees: 0,
+            threshold: 0,
+            config: 0,
+            ended: false,
+            voters: Vec::new(),
+            sessions: Vec::new(),
+            commitments: Vec::new(),
+            answered: Vec::new(),
+            undecided: Vec::new(),
+            untracked: Vec::new(),
+            tracks: Vec::new(),
+            verifiers: Vec::new(),
+            opened: Vec::new(),
+            intents: Vec::new(),
+            extractions: Vec::new(),
+            counted: Vec::new(),
+            random,
+        };
+        if maker.random.chance(4) {
+            maker.ballot_box = maker.administrator;
+        }
+        maker
+    }
+
+    pub(crate) fn finish(self) -> Made {
+        let mut expected = self.expected;
+        for &(ballot, voter, weight) in &self.counted {
+            expected.ballots.push([expected.rows[ballot][2] + 1, voter, weight]);
+        }
+        Made { plan: Plan::new(self.items), expected }
+    }
+
     fn run(&mut self) {
         self.genesis();
         // The extraction needs three items at the least, and an exact size some texts before it.
@@ -216,7 +226,7 @@ impl Maker<'_> {
     }
 
     /// A time for the next main item: often the same, mostly a little later.
-    fn later(&mut self) -> u64 {
+    pub(crate) fn later(&mut self) -> u64 {
         let step = match self.random.below(10) {
             0..=3 => 0,
             4..=8 => self.random.between(1, 50) as u64,
@@ -225,7 +235,7 @@ impl Maker<'_> {
         self.now + step
     }
 
-    fn add(&mut self, code: u32, parent: usize, content: Vec<u32>, time: u64, key: [u32; 8]) -> usize {
+    pub(crate) fn add(&mut self, code: u32, parent: usize, content: Vec<u32>, time: u64, key: [u32; 8]) -> usize {
         let position = self.items.len();
         let kind = kind_of(code).expect("a listed type");
         let session = match code {
@@ -263,7 +273,7 @@ impl Maker<'_> {
         self.add(code, self.config, content, time, self.administrator);
     }
 
-    fn genesis(&mut self) {
+    pub(crate) fn genesis(&mut self) {
         let mut content = vec![self.random.word()];
         content.extend(self.administrator);
         content.extend(self.ballot_box);
@@ -301,7 +311,7 @@ impl Maker<'_> {
         self.configure(TEXT, content);
     }
 
-    fn add_contest(&mut self) {
+    pub(crate) fn add_contest(&mut self) {
         let number = if self.random.chance(70) && self.contests != u32::MAX {
             self.random.bit(!self.contests).trailing_zeros()
         } else {
@@ -314,7 +324,7 @@ impl Maker<'_> {
         self.contests |= 1 << number;
     }
 
-    fn add_threshold(&mut self) {
+    pub(crate) fn add_threshold(&mut self) {
         let m = if self.random.chance(30) { self.random.between(1, 32) } else { self.random.between(1, 7) };
         let t = self.random.between(1, m);
         (self.trustees, self.threshold) = (m as u32, t as u32);
@@ -323,7 +333,7 @@ impl Maker<'_> {
         self.configure(THRESHOLD, content);
     }
 
-    fn add_authorizer(&mut self) {
+    pub(crate) fn add_authorizer(&mut self) {
         self.authorizer = self.random.eight();
         let mut content = vec![self.random.between(1, 2) as u32];
         content.extend(self.authorizer);
@@ -443,7 +453,7 @@ impl Maker<'_> {
         self.sessions.iter().position(|s| s.position + 1 == number).expect("the session is live")
     }
 
-    fn commitment(&mut self) -> Vec<u32> {
+    pub(crate) fn commitment(&mut self) -> Vec<u32> {
         let mut content = self.random.words(9);
         content[8] &= 0xff00_0000;
         content
@@ -573,7 +583,7 @@ impl Maker<'_> {
         3 * FRAME + 8 + 1 + TRUSTEE * self.threshold as usize + (items - 3) * FRAME
     }
 
-    fn intent(&mut self) {
+    pub(crate) fn intent(&mut self) {
         let time = self.later();
         let added = self.add(INTENT, self.config, Vec::new(), time, self.administrator);
         self.intents.push(added);
@@ -602,7 +612,7 @@ impl Maker<'_> {
         }
     }
 
-    fn extraction(&mut self) {
+    pub(crate) fn extraction(&mut self) {
         let parent = Self::take(self.random, &mut self.intents);
         let mut message = Vec::new();
         for &(ballot, _, _) in &self.counted {
@@ -614,7 +624,7 @@ impl Maker<'_> {
         self.extractions.push(added);
     }
 
-    fn confirm(&mut self, least: bool) {
+    pub(crate) fn confirm(&mut self, least: bool) {
         let parent = Self::take(self.random, &mut self.extractions);
         let below_m = if self.trustees == 32 { u32::MAX } else { (1 << self.trustees) - 1 };
         let mut set = if least { 0 } else { self.random.subset(below_m) };

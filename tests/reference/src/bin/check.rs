@@ -7,10 +7,13 @@
 
 use reference::checks::*;
 use reference::collisions;
+use reference::crowded::crowded;
+use reference::format::{BALLOTS_NEED, MAX_BALLOTS};
 use reference::interface::{library, stand_in, Interface, MISTAKE, MISTAKES};
 use reference::program::{bytes, program};
 use reference::random::Random;
-use reference::sha256::check_vectors;
+use reference::sha256::{check_vectors, sha256};
+use reference::sound::Shape;
 use reference::stored::check_folder;
 use std::collections::BTreeMap;
 use std::fs;
@@ -148,17 +151,11 @@ fn hidden_tracks() {
 /// The comparison itself is tried on a stand-in that makes a mistake.
 fn mistakes_are_found() {
     let makers = Makers::default();
+    let sound: Vec<Case> = (0..400).map(|seed| case(&makers, Group::Sound, seed)).collect();
     for (mistake, what) in MISTAKES.iter().enumerate() {
         MISTAKE.store(mistake, Ordering::Relaxed);
         let mut found = [0; 3];
-        for seed in 0..400 {
-            let case = case(&makers, Group::Sound, seed);
-            let (random, tally) = (&mut Random::new(seed), &mut Tally::default());
-            let checks = [check_audit, check_ancestry, check_compare];
-            for (entry, check) in checks.iter().enumerate() {
-                found[entry] += usize::from(check(&stand_in(), &case, random, tally).is_err());
-            }
-        }
+        add_differences(&sound, ANY_LENGTH, &mut found);
         let right = if mistake == 0 { found == [0; 3] } else { found.iter().all(|&f| f > 0) };
         if !right {
             fail(&format!("the comparison does not see '{what}': found {found:?} times"));
@@ -168,10 +165,22 @@ fn mistakes_are_found() {
     println!("harness    {} planted mistakes are found in each entry", MISTAKES.len() - 1);
 }
 
+/// Counts the cases in which the stand-in differs from the reference, by entry.
+fn add_differences(cases: &[Case], checks: [Check; 3], found: &mut [usize; 3]) {
+    for (seed, case) in cases.iter().enumerate() {
+        let (random, tally) = (&mut Random::new(seed as u64), &mut Tally::default());
+        for (entry, check) in checks.iter().enumerate() {
+            found[entry] += usize::from(check(&stand_in(), case, random, tally).is_err());
+        }
+    }
+}
+
 /// What all cases gave.
 #[derive(Default)]
 struct Counts {
     boards: usize,
+    /// Of the full boards those that fill the ballot table, other sound ones, refused ones.
+    full: [usize; 3],
     words: usize,
     by_number: BTreeMap<u32, usize>,
     by_reason: BTreeMap<String, usize>,
@@ -194,10 +203,18 @@ fn run_case(
     let mut all = || -> Result<(), String> {
         let number = check_known(&case)?;
         *counts.by_number.entry(number).or_default() += 1;
+        if group == Group::Full {
+            let filled = check_full(&case)?;
+            counts.full[if filled { 0 } else { 1 + usize::from(number != 0) }] += 1;
+        }
         if let Some(with) = with {
-            check_audit(&with, &case, random, &mut counts.audit)?;
-            check_compare(&with, &case, random, &mut counts.compare)?;
-            check_ancestry(&with, &case, random, &mut counts.ancestry)?;
+            let tallies = [&mut counts.audit, &mut counts.compare, &mut counts.ancestry];
+            for (entry, tally) in tallies.into_iter().enumerate() {
+                ANY_LENGTH[entry](&with, &case, random, tally)?;
+                if group == Group::Full {
+                    FULL_LENGTHS[entry](&with, &case, random, tally)?;
+                }
+            }
             if sum(&case) != before {
                 return Err("a word of a board or of its verdicts was written".to_string());
             }
@@ -227,6 +244,7 @@ fn shares(cases: u64) -> Vec<(Group, u64)> {
     let part = |percent: u64| cases * percent / 100;
     vec![
         (Group::Long, 48.min(cases)),
+        (Group::Full, 40.min(cases)),
         (Group::Sound, part(15)),
         (Group::Faults, part(40)),
         (Group::Order, part(15)),
@@ -276,10 +294,16 @@ fn cases(options: &Options, with: Option<Interface>) {
     let least = total.by_reason.values().min().copied().unwrap_or(0);
     let reasons = Makers::default().faults.len();
     println!("           by reason   {} of {reasons}, each at least {least} times", total.by_reason.len());
+    let [filled, fewer, refused] = total.full;
+    println!(
+        "           full        {filled} with {MAX_BALLOTS} counted ballots fill a table of {BALLOTS_NEED} words, \
+         {fewer} count fewer, {refused} are refused"
+    );
     // All but 2, which takes a short table whatever the board is.
     let missing = [1].into_iter().chain(3..=16).chain([18]).filter(|n| !total.by_number.contains_key(n)).count();
-    if options.cases >= 5_000 && (missing > 0 || total.by_reason.len() < reasons) {
-        fail("some refusal or reason was not made");
+    let full_made = filled >= 5 && fewer >= 5 && refused >= 10;
+    if options.cases >= 5_000 && (missing > 0 || total.by_reason.len() < reasons || !full_made) {
+        fail("some refusal, reason or full board was not made");
     }
     if let Some(with) = with {
         let entries = [
@@ -314,6 +338,9 @@ fn told(tally: &Tally) -> String {
 fn merge(total: &mut Counts, part: Counts) {
     total.boards += part.boards;
     total.words += part.words;
+    for (a, b) in total.full.iter_mut().zip(part.full) {
+        *a += b;
+    }
     for (number, count) in part.by_number {
         *total.by_number.entry(number).or_default() += count;
     }
@@ -405,6 +432,12 @@ fn programs(options: &Options, path: &Path) {
             _ => {}
         }
         run(&case.name, (seed % 16 != 7).then_some(&board[..]), (seed % 16 != 8).then_some(&verdicts[..]));
+    }
+    // As many counted ballots as a board that the program takes can have.
+    for seed in 0..4 {
+        let shape = Shape { items: 5 + 5 * 59, words: None, long: 0, voters: 59, extraction: false };
+        let laid = crowded(&mut Random::new(seed), shape).plan.lay(sha256);
+        run("59 counted ballots", Some(&bytes(&laid.words)), Some(&bytes(&laid.verdicts)));
     }
     // The largest board that the program takes.
     for seed in 0..4 {

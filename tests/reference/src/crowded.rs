@@ -1,0 +1,230 @@
+//! Crowded boards from a seed: as many counted ballots as the items allow, or nearly so many
+//! with voters who cast again, so that rows of the ballot table move.
+
+use crate::format::*;
+use crate::random::Random;
+use crate::sha256::sha256;
+use crate::sound::{Made, Maker, Shape};
+
+/// The types of the items that a counted ballot takes, in order.
+const WHOLE: [u32; 5] = [SESSION, VOTER_COMMITMENT, SERVER_COMMITMENT, BALLOT, CAST];
+
+/// What a voter who has cast may add: ways to cast again first, then such as leave the row.
+const CAST_AGAIN: usize = 3;
+const MORE: [&[u32]; 7] = [
+    &[VOTER_COMMITMENT, SERVER_COMMITMENT, BALLOT, CAST],
+    &[VOTER_COMMITMENT, SERVER_COMMITMENT, BALLOT, TRACK, CAST],
+    &WHOLE,
+    &[VOTER_COMMITMENT, SERVER_COMMITMENT, BALLOT, SPOIL],
+    &[VOTER_COMMITMENT, SERVER_COMMITMENT, BALLOT],
+    &[VOTER_COMMITMENT],
+    &[SESSION],
+];
+
+/// One more item of a voter: who, and its type.
+type Step = (usize, u32);
+
+/// A voter, with the latest session's weight and key.
+struct Voter {
+    number: u32,
+    weight: u32,
+    key: [u32; 8],
+    /// The positions of the latest session, commitments and ballot.
+    latest: [usize; 4],
+}
+
+/// How heavy votes are. In a crowd every way brings the total past 32 bits.
+#[derive(Clone, Copy)]
+enum Weights {
+    Greatest,
+    Any,
+    Mixed,
+}
+
+/// A board in which so many voters cast as the shape says. Items that are left over go to
+/// voters who cast again, or to other things that voters do.
+pub fn crowded(random: &mut Random, shape: Shape) -> Made {
+    let mut maker = Maker::new(random, sha256, shape);
+    maker.genesis();
+    let mut config = [CONTEST, THRESHOLD, AUTHORIZER];
+    maker.random.shuffle(&mut config);
+    for code in config {
+        match code {
+            CONTEST => maker.add_contest(),
+            THRESHOLD => maker.add_threshold(),
+            _ => maker.add_authorizer(),
+        }
+    }
+    let steps = steps(shape, maker.random);
+    let times = times(&mut maker, steps.len());
+    add_round(&mut maker, times[0], times[times.len() - 1]);
+
+    let weights = *maker.random.pick(&[Weights::Greatest, Weights::Any, Weights::Mixed]);
+    let mut voters: Vec<Voter> = numbers(shape.voters, maker.random)
+        .into_iter()
+        .map(|number| Voter { number, weight: 0, key: ZEROS, latest: [0; 4] })
+        .collect();
+    // Position of the ballot, voter, weight.
+    let mut casts: Vec<(usize, u32, u32)> = Vec::new();
+    for (&(who, code), time) in steps.iter().zip(times) {
+        let voter = &mut voters[who];
+        if code == CAST {
+            casts.push((voter.latest[3], voter.number, voter.weight));
+        }
+        add_step(&mut maker, voter, code, time, weights);
+    }
+    // Of each voter the last cast, in board order.
+    let is_last = |i: usize| casts[i + 1..].iter().all(|later| later.1 != casts[i].1);
+    maker.counted = (0..casts.len()).filter(|&i| is_last(i)).map(|i| casts[i]).collect();
+    if shape.extraction {
+        maker.intent();
+        maker.extraction();
+        maker.confirm(false);
+    }
+    assert_eq!(maker.items.len(), shape.items, "the items add up");
+    maker.finish()
+}
+
+/// Who adds what, in board order.
+fn steps(shape: Shape, random: &mut Random) -> Vec<Step> {
+    let others = if shape.extraction { 5 + 3 } else { 5 };
+    let mut room = shape.items - others - WHOLE.len() * shape.voters;
+    // The last few voters come while others cast again.
+    let early = shape.voters - random.pick(&[0, 1, 5, 40]).min(&shape.voters);
+    let lane = |who: usize| WHOLE.map(|code| (who, code)).to_vec();
+    let mut first: Vec<Vec<Step>> = (0..early).map(lane).collect();
+    let mut second: Vec<Vec<Step>> = vec![Vec::new(); shape.voters];
+    for who in early..shape.voters {
+        second[who] = lane(who);
+    }
+    let mut who = random.below(shape.voters);
+    // One at the least casts again, where there is room for it.
+    let mut cast_again = room >= MORE[0].len();
+    while room > 0 {
+        let ways = if cast_again { &MORE[..CAST_AGAIN] } else { &MORE[..] };
+        let fitting: Vec<&[u32]> = ways.iter().copied().filter(|codes| codes.len() <= room).collect();
+        let codes = *random.pick(&fitting);
+        if random.chance(70) {
+            who = random.below(shape.voters);
+        }
+        second[who].extend(codes.iter().map(|&code| (who, code)));
+        room -= codes.len();
+        cast_again = room >= MORE[0].len() && random.chance(60);
+    }
+    let mut steps = merge(&mut first, random);
+    steps.extend(merge(&mut second, random));
+    steps
+}
+
+/// The steps of all lanes, each lane's in its order: lane by lane, all first steps before all
+/// second ones, or mixed.
+fn merge(lanes: &mut Vec<Vec<Step>>, random: &mut Random) -> Vec<Step> {
+    lanes.retain(|lane| !lane.is_empty());
+    random.shuffle(lanes);
+    let mut steps = Vec::new();
+    match random.below(3) {
+        0 => steps = lanes.concat(),
+        1 => {
+            let longest = lanes.iter().map(Vec::len).max().unwrap_or(0);
+            for rank in 0..longest {
+                steps.extend(lanes.iter().filter_map(|lane| lane.get(rank)));
+                random.shuffle(lanes);
+            }
+        }
+        _ => {
+            // How many lanes are under way at a time.
+            let width = *random.pick(&[2, 20, MAX_ITEMS]);
+            let mut places = vec![0; lanes.len()];
+            let mut open: Vec<usize> = Vec::new();
+            let mut next = 0;
+            loop {
+                while open.len() < width && next < lanes.len() {
+                    open.push(next);
+                    next += 1;
+                }
+                if open.is_empty() {
+                    break;
+                }
+                let at = random.below(open.len());
+                let lane = open[at];
+                steps.push(lanes[lane][places[lane]]);
+                places[lane] += 1;
+                if places[lane] == lanes[lane].len() {
+                    open.swap_remove(at);
+                }
+            }
+        }
+    }
+    steps
+}
+
+/// Times for so many items: all the same, or rising.
+fn times(maker: &mut Maker, count: usize) -> Vec<u64> {
+    let most = *maker.random.pick(&[0, 1, 50]);
+    let mut time = maker.later();
+    let mut times = Vec::new();
+    for _ in 0..count {
+        times.push(time);
+        time += maker.random.between(0, most) as u64;
+    }
+    times
+}
+
+/// A round with the contest there is, often open no longer than from the first item to the last.
+fn add_round(maker: &mut Maker, first: u64, last: u64) {
+    let start = *maker.random.pick(&[first, 0]);
+    let end = *maker.random.pick(&[last + 1, u64::MAX]);
+    let number = maker.random.below(16) as u32;
+    let content = vec![number, maker.contests, (start >> 32) as u32, start as u32, (end >> 32) as u32, end as u32];
+    maker.add(ROUND, maker.config, content, maker.now, maker.administrator);
+}
+
+/// Different numbers, 0 and the greatest among them.
+fn numbers(count: usize, random: &mut Random) -> Vec<u32> {
+    let (first, step) = match random.below(4) {
+        0 => (0, 1),
+        1 => (u32::MAX - count as u32, 1),
+        // Different in their high bits alone.
+        2 => (random.word(), 1 << 23),
+        _ => (random.word(), random.word() | 1),
+    };
+    let mut all: Vec<u32> = (0..count as u32).map(|i| step.wrapping_mul(i).wrapping_add(first)).collect();
+    all.retain(|&number| number != 0 && number != u32::MAX);
+    all.truncate(count - 2);
+    all.extend([0, u32::MAX]);
+    random.shuffle(&mut all);
+    all
+}
+
+fn add_step(maker: &mut Maker, voter: &mut Voter, code: u32, time: u64, weights: Weights) {
+    let (parent, content, key) = match code {
+        SESSION => {
+            voter.weight = match weights {
+                Weights::Greatest => u32::MAX,
+                Weights::Any => maker.random.word().max(1),
+                Weights::Mixed if maker.random.chance(20) => u32::MAX,
+                Weights::Mixed => maker.random.between(1, 9) as u32,
+            };
+            voter.key = maker.random.eight();
+            let mut content = vec![voter.number, voter.weight];
+            content.extend(voter.key);
+            content.extend(maker.random.eight());
+            content.push(maker.contests);
+            (maker.config, content, maker.authorizer)
+        }
+        VOTER_COMMITMENT => (voter.latest[0], maker.commitment(), voter.key),
+        SERVER_COMMITMENT => (voter.latest[1], maker.commitment(), maker.ballot_box),
+        BALLOT => {
+            let mut content = vec![maker.contests];
+            content.extend(maker.random.words(CRYPTOGRAM - 1));
+            content.push(maker.random.word() & 0xffff_0000);
+            (voter.latest[2], content, voter.key)
+        }
+        TRACK => (voter.latest[3], Vec::new(), maker.ballot_box),
+        _ => (voter.latest[3], Vec::new(), voter.key),
+    };
+    let position = maker.add(code, parent, content, time, key);
+    if (SESSION..=BALLOT).contains(&code) {
+        voter.latest[(code - SESSION) as usize] = position;
+    }
+}
