@@ -6,6 +6,7 @@
 use crate::ancestry::ancestry;
 use crate::audit::audit;
 use crate::compare::{compare, Board, Comparison, Side, Tables};
+use crate::format::{BALLOTS_NEED, BALLOT_ROW};
 use std::slice::{from_raw_parts, from_raw_parts_mut};
 use std::sync::atomic::{AtomicUsize, Ordering};
 
@@ -101,7 +102,7 @@ pub fn stand_in() -> Interface {
 /// The mistake the stand-in makes: 0 is none.
 pub static MISTAKE: AtomicUsize = AtomicUsize::new(0);
 
-pub const MISTAKES: [&str; 11] = [
+pub const MISTAKES: [&str; 15] = [
     "none",
     "an answer word is wrong",
     "the last answer word is wrong",
@@ -113,7 +114,46 @@ pub const MISTAKES: [&str; 11] = [
     "a word behind the ballots is written",
     "a short answer buffer is written",
     "the result is wrong",
+    "6,144 words of ballot table are asked for",
+    "a ballot table of one row less is taken",
+    "the 408th ballot row is not written",
+    "a ballot table that is too short is cleared",
 ];
+
+/// From here on the mistakes are about the ballot table.
+pub const BALLOT_MISTAKES: usize = 11;
+
+/// Runs an entry with a lent ballot table, or with what a mistake makes of it.
+fn with_ballots<T>(lent: &mut [u32], run: impl FnOnce(&mut [u32]) -> T) -> T {
+    let len = lent.len();
+    match MISTAKE.load(Ordering::Relaxed) {
+        // The reference refuses what is left.
+        11 if len < 6_144 => run(&mut lent[..len.min(BALLOTS_NEED - 1)]),
+        12 if (BALLOTS_NEED - BALLOT_ROW..BALLOTS_NEED).contains(&len) => {
+            let mut longer = lent.to_vec();
+            longer.resize(BALLOTS_NEED, 0);
+            let given = run(&mut longer);
+            lent.copy_from_slice(&longer[..len]);
+            given
+        }
+        13 if len >= BALLOTS_NEED => {
+            let row = BALLOTS_NEED - BALLOT_ROW..BALLOTS_NEED;
+            let before = lent[row.clone()].to_vec();
+            let given = run(lent);
+            // Where no word is to be written, the row stays as it was.
+            if lent[row.clone()] != before {
+                lent[row].fill(0);
+            }
+            given
+        }
+        14 if len < BALLOTS_NEED => {
+            let given = run(lent);
+            lent.fill(0);
+            given
+        }
+        _ => run(lent),
+    }
+}
 
 unsafe fn finish(answer: *mut u32, answer_len: usize, words: &[u32], tables: [(*mut u32, usize); 2]) -> bool {
     let [(index, index_len), (ballots, ballots_len)] = tables;
@@ -150,12 +190,12 @@ unsafe extern "C" fn stand_in_audit(
     if answer_len < AUDIT_ANSWER {
         return too_short(answer, answer_len);
     }
-    let report = audit(
+    let report = with_ballots(from_raw_parts_mut(ballots, ballots_len), |ballots| audit(
         from_raw_parts(board, board_len),
         from_raw_parts(verdicts, verdicts_len),
         from_raw_parts_mut(index, index_len),
-        from_raw_parts_mut(ballots, ballots_len),
-    );
+        ballots,
+    ));
     finish(answer, answer_len, &audit_words(&report), [(index, index_len), (ballots, ballots_len)])
 }
 
@@ -171,19 +211,16 @@ unsafe extern "C" fn stand_in_compare(
     if answer_len < COMPARE_ANSWER {
         return too_short(answer, answer_len);
     }
-    let comparison = compare(
+    let run = |kept_ballots: &mut [u32], later_ballots: &mut [u32]| compare(
         Board { words: from_raw_parts(kept, kept_len), verdicts: from_raw_parts(kept_verdicts, kept_verdicts_len) },
         Board { words: from_raw_parts(later, later_len), verdicts: from_raw_parts(later_verdicts, later_verdicts_len) },
         main_number,
-        Tables {
-            index: from_raw_parts_mut(kept_index, kept_index_len),
-            ballots: from_raw_parts_mut(kept_ballots, kept_ballots_len),
-        },
-        Tables {
-            index: from_raw_parts_mut(later_index, later_index_len),
-            ballots: from_raw_parts_mut(later_ballots, later_ballots_len),
-        },
+        Tables { index: from_raw_parts_mut(kept_index, kept_index_len), ballots: kept_ballots },
+        Tables { index: from_raw_parts_mut(later_index, later_index_len), ballots: later_ballots },
     );
+    let comparison = with_ballots(from_raw_parts_mut(kept_ballots, kept_ballots_len), |of_kept| {
+        with_ballots(from_raw_parts_mut(later_ballots, later_ballots_len), |of_later| run(of_kept, of_later))
+    });
     let tables = [(later_index, later_index_len), (later_ballots, later_ballots_len)];
     finish(answer, answer_len, &compare_words(&comparison), tables)
 }
@@ -198,14 +235,14 @@ unsafe extern "C" fn stand_in_ancestry(
     if answer_len < ANCESTRY_ANSWER {
         return too_short(answer, answer_len);
     }
-    let given = ancestry(
+    let given = with_ballots(from_raw_parts_mut(ballots, ballots_len), |ballots| ancestry(
         from_raw_parts(board, board_len),
         from_raw_parts(verdicts, verdicts_len),
         item_number,
         from_raw_parts_mut(index, index_len),
-        from_raw_parts_mut(ballots, ballots_len),
+        ballots,
         from_raw_parts_mut(list, list_len),
-    );
+    ));
     let tables = [(list, list_len), (ballots, ballots_len)];
     finish(answer, answer_len, &[given.number, given.count], tables)
 }

@@ -9,7 +9,7 @@ use reference::checks::*;
 use reference::collisions;
 use reference::crowded::crowded;
 use reference::format::{BALLOTS_NEED, MAX_BALLOTS};
-use reference::interface::{library, stand_in, Interface, MISTAKE, MISTAKES};
+use reference::interface::{library, stand_in, Interface, BALLOT_MISTAKES, MISTAKE, MISTAKES};
 use reference::program::{bytes, program};
 use reference::random::Random;
 use reference::sha256::{check_vectors, sha256};
@@ -148,14 +148,21 @@ fn hidden_tracks() {
     println!("tracks     300 boards report the same main list with other hidden tracks");
 }
 
-/// The comparison itself is tried on a stand-in that makes a mistake.
+/// The comparison itself is tried on a stand-in that makes a mistake. Those about the ballot
+/// table are to be found with a full board, by the lengths that are always tried with it.
 fn mistakes_are_found() {
     let makers = Makers::default();
     let sound: Vec<Case> = (0..400).map(|seed| case(&makers, Group::Sound, seed)).collect();
+    let full = [case(&makers, Group::Full, 0)];
     for (mistake, what) in MISTAKES.iter().enumerate() {
         MISTAKE.store(mistake, Ordering::Relaxed);
         let mut found = [0; 3];
-        add_differences(&sound, ANY_LENGTH, &mut found);
+        if mistake < BALLOT_MISTAKES {
+            add_differences(&sound, ANY_LENGTH, &mut found);
+        }
+        if mistake == 0 || mistake >= BALLOT_MISTAKES {
+            add_differences(&full, FULL_LENGTHS, &mut found);
+        }
         let right = if mistake == 0 { found == [0; 3] } else { found.iter().all(|&f| f > 0) };
         if !right {
             fail(&format!("the comparison does not see '{what}': found {found:?} times"));
