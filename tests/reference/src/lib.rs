@@ -4,7 +4,7 @@
 //!
 //! The rules: `sha256`, `format`, `audit`, `compare`, `ancestry`, `program`.
 //! The boards: `random`, `plan`, `sound`, `crowded`, `faults`, `damage`, `collisions`.
-//! The checks: `interface`, `checks`, `stored`.
+//! The checks: `interface`, `header`, `checks`, `stored`.
 
 pub mod ancestry;
 pub mod audit;
@@ -15,6 +15,7 @@ pub mod crowded;
 pub mod damage;
 pub mod faults;
 pub mod format;
+pub mod header;
 pub mod interface;
 pub mod plan;
 pub mod program;

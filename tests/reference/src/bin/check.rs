@@ -1,6 +1,6 @@
 //! Runs the checks: of the reference by itself, and of the auditor's library where it is linked.
 //!
-//!   check [--boards FOLDER]... [--program FILE] [--cases N] [--seed N] [--dump FOLDER]
+//!   check [--boards FOLDER]... [--header FILE] [--program FILE] [--cases N] [--seed N] [--dump FOLDER]
 //!   check --only GROUP SEED     one case again, as a failure names it
 //!   check --all-entries ..      a library that is not linked, or lacks an entry, is a failure
 //!   check --stand-in ..         the reference in the library's place, to try the harness
@@ -9,6 +9,7 @@ use reference::checks::*;
 use reference::collisions;
 use reference::crowded::crowded;
 use reference::format::{BALLOTS_NEED, MAX_BALLOTS};
+use reference::header::check_header;
 use reference::interface::{library, stand_in, Interface, BALLOT_MISTAKES, MISTAKE, MISTAKES};
 use reference::program::{bytes, program};
 use reference::random::Random;
@@ -25,6 +26,7 @@ use std::time::Instant;
 
 struct Options {
     boards: Vec<PathBuf>,
+    header: Option<PathBuf>,
     program: Option<PathBuf>,
     cases: u64,
     seed: u64,
@@ -37,6 +39,7 @@ struct Options {
 fn options() -> Options {
     let mut o = Options {
         boards: Vec::new(),
+        header: None,
         program: None,
         cases: 24_000,
         seed: 0,
@@ -51,6 +54,7 @@ fn options() -> Options {
         let number = |text: String| text.parse::<u64>().unwrap_or_else(|_| usage());
         match arg.as_str() {
             "--boards" => o.boards.push(PathBuf::from(value())),
+            "--header" => o.header = Some(PathBuf::from(value())),
             "--program" => o.program = Some(PathBuf::from(value())),
             "--cases" => o.cases = number(value()),
             "--seed" => o.seed = number(value()),
@@ -68,7 +72,7 @@ fn options() -> Options {
 }
 
 fn usage() -> ! {
-    eprintln!("usage: check [--boards FOLDER]... [--program FILE] [--cases N] [--seed N] [--dump FOLDER]");
+    eprintln!("usage: check [--boards FOLDER]... [--header FILE] [--program FILE] [--cases N] [--seed N] [--dump FOLDER]");
     eprintln!("       check --only GROUP SEED");
     exit(2);
 }
@@ -80,6 +84,7 @@ fn main() {
         return only(&options, group, seed);
     }
     vectors();
+    header(&options);
     stored_boards(&options);
     collision_boards();
     hidden_tracks();
@@ -110,6 +115,14 @@ fn fail(message: &str) -> ! {
 fn vectors() {
     match check_vectors() {
         Ok(count) => println!("sha-256    {count} known answers"),
+        Err(message) => fail(&message),
+    }
+}
+
+fn header(options: &Options) {
+    let Some(path) = &options.header else { return };
+    match check_header(path) {
+        Ok(count) => println!("header     {count} lengths are those of the interface ({})", path.display()),
         Err(message) => fail(&message),
     }
 }
