@@ -27,7 +27,9 @@ pub fn check_header(path: &Path) -> Result<usize, String> {
     let text = fs::read_to_string(path).map_err(|e| format!("{}: {e}", path.display()))?;
     let mut defined = Vec::new();
     for line in text.lines() {
-        let Some((name, length)) = line.strip_prefix("#define ").and_then(|rest| rest.split_once(' ')) else { continue };
+        let Some((name, length)) = line.strip_prefix("#define ").and_then(|rest| rest.split_once(' ')) else {
+            continue;
+        };
         let known = LENGTHS.iter().find(|(known, _)| *known == name);
         match known {
             Some(&(_, length_is)) if value(length) == Some(length_is) => defined.push(name),

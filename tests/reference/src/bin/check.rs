@@ -72,7 +72,9 @@ fn options() -> Options {
 }
 
 fn usage() -> ! {
-    eprintln!("usage: check [--boards FOLDER]... [--header FILE] [--program FILE] [--cases N] [--seed N] [--dump FOLDER]");
+    eprintln!(
+        "usage: check [--boards FOLDER]... [--header FILE] [--program FILE] [--cases N] [--seed N] [--dump FOLDER]"
+    );
     eprintln!("       check --only GROUP SEED");
     exit(2);
 }
