@@ -28,7 +28,7 @@ extern "C" {
 
 /* Where the answer's words stand. */
 enum {
-    TIRFOLMA_NUMBER = 0,      /* 0: accepted; 1 to 16, or 18: the refusal (17 is not used) */
+    TIRFOLMA_NUMBER = 0,      /* 0: accepted; 1 to 16, or 18: the refusal */
     TIRFOLMA_ITEMS = 1,       /* items; of a refusal, those that passed */
     TIRFOLMA_MAINS = 2,       /* main items */
     TIRFOLMA_BALLOTS = 3,     /* counted ballots */

@@ -4,11 +4,11 @@ use Prim.Native.Nat.{ℕ}
 use native.Mathlib.Omega.{arith}
 use mathlib.Core.Path.{_≡_, refl}
 use mathlib.Core.Logic.{_≢_, _↔_, _⊎_, inl, inr, ⊎-elim}
-use mathlib.Core.List.{List}
+use mathlib.Core.List.{List, [], _∷_}
 use Rattle.model.specs.Refusal.{emptyBoard, truncated, badClosing}
 use Rattle.model.specs.Format.{Format}
 use Rattle.model.specs.Audit.{Outcome, unread, refused, audit}
-use Rattle.model.specs.Reasons.{FirstOf, startReasons, EndsAt, ClosesAt, HeadAt, itemReasons, closingReasons, Reached, Answers, atStart, atEmpty, atEnd, atItem, atClosing}
+use Rattle.model.specs.Reasons.{FirstOf, numbersOf, startReasons, EndsAt, ClosesAt, HeadAt, itemReasons, closingReasons, Reached, Answers, atStart, atEmpty, atEnd, atItem, atClosing}
 use Rattle.model.proofs.FirstReason.{every-first}
 use Rattle.model.proofs.Reasons.{answers}
 
@@ -19,7 +19,14 @@ module _ (f : Format) (ws vs : List ℕ) (index ballots : ℕ) where
   abbrev Reaching : ℕ → Type 0
   Reaching = Reached f ws vs index ballots
 
-  -- the numbers that the lists of reasons have
+  -- the numbers of the reasons, in their order
+  pub numbers-in-order : (k : ℕ) → (numbersOf (startReasons ws index ballots) ≡ 1 ∷ 2 ∷ 3 ∷ [])
+      × (numbersOf (itemReasons f ws vs k) ≡ 1 ∷ 5 ∷ 6 ∷ 4 ∷ 7 ∷ 8 ∷ 9 ∷ 10 ∷ 11 ∷ 12 ∷ 13 ∷ 14 ∷ 15 ∷ 16 ∷ [])
+      × (numbersOf (closingReasons f ws vs k) ≡ 18 ∷ [])
+  unfolding startReasons itemReasons closingReasons
+  numbers-in-order k = (refl, refl, refl)
+
+  -- what is known of them
   item-numbers : (n k : ℕ) → FirstOf (itemReasons f ws vs k) n → (n ≢ emptyBoard) × (n ≢ badClosing)
   unfolding itemReasons
   item-numbers n k s = every-first (λ n. (n ≢ emptyBoard) × (n ≢ badClosing)) (omega arith) s

@@ -1,4 +1,4 @@
--- What stands only once: of two such items each would have to come before the other. Paper: "Only one". Assumes nothing.
+-- What stands only once: of two such items the later one would not pass. Paper: "Only one". Assumes nothing.
 use Prim.Native.Nat.{ℕ, zero, suc, _≤_, _<_}
 use native.Mathlib.Nat.{le-of-suc-le-suc, not-suc-le-zero}
 use native.Mathlib.Omega.{arith}
@@ -11,6 +11,7 @@ use lib.ListN.{length, getD, take}
 use lib.Dec.{T, eqb, eqb→eq}
 use Rattle.model.specs.Lists.{any}
 use Rattle.model.specs.Words.{between}
+use Rattle.model.specs.Codes.{genesisType, thresholdType}
 use Rattle.model.specs.Format.{Format}
 use Rattle.model.specs.Item.{code}
 use Rattle.model.specs.History.{History, Entry, absent, entry, itemNo, typed, parentNumber}
@@ -54,7 +55,7 @@ module _ {f : Format} {ws vs : List ℕ} {h : History} (p : Passed f ws vs h) wh
         (λ n. absurd (not-earlier k j one′ all (omega arith) a s))
 
   -- types 1 and 4: one per board
-  pub one-on-board : (c j k : ℕ) → T (eqb c 1 || eqb c 4) → code (itemNo h j) ≡ c → code (itemNo h k) ≡ c → j ≡ k
+  pub one-on-board : (c j k : ℕ) → T (eqb c genesisType || eqb c thresholdType) → code (itemNo h j) ≡ c → code (itemNo h k) ≡ c → j ≡ k
   unfolding onBoardOk
   one-on-board zero j k t a b = absurd t
   one-on-board (suc c) j k t a b =

@@ -24,7 +24,7 @@ use Rattle.model.specs.Sound.{Passed}
 use Rattle.model.proofs.Tests.{by-test, passes, or-left, or-right}
 use Rattle.model.proofs.Lists.{Every, any-of-map, turns, map-keep}
 use Rattle.model.proofs.Numbers.{keep-entry}
-use Rattle.model.proofs.Votes.{voters-latest}
+use Rattle.model.proofs.Votes.{votes-cast, votes-other, voters-latest}
 use Rattle.model.proofs.Ancestry.{numbered}
 
 -- ---- main item n
@@ -47,18 +47,20 @@ module _ (h : History) where
   item-here j e es q = (turns h j e es q .at absent, omega (arith, simp length-drop at (ap length q)))
 
   among-more : (p : Vote → Bool) (e : Entry) (es : List Entry) → T (any p (votesIn h es)) → T (any p (votesIn h (e ∷ es)))
-  unfolding any keep
-  among-more p e es t = by-test (typed castType e) (λ s. rw s (or-right (p (voteOf h e)) _ t)) (λ s. rw s t)
+  unfolding any
+  among-more p e es t =
+      by-test (typed castType e) (λ s. rw (votes-cast h e es s) (or-right (p (voteOf h e)) _ t)) (λ s. rw (votes-other h e es s) t)
 
   -- a cast behind them is among their votes
   cast-among : (p : Vote → Bool) (j : ℕ) (es : List Entry) → drop j h ≡ es → (d : ℕ) → j < d → d ≤ length h → code (itemNo h d) ≡ castType
       → T (p (voteOf h (entry h d))) → T (any p (votesIn h es))
-  unfolding any keep
+  unfolding any
   cast-among p j [] q d l m c t = absurd (omega (arith, simp length-drop at (ap length q)))
   cast-among p j (e ∷ es) q d l m c t =
       by-cases (decLe d (suc j))
       (λ n. let here : entry h d ≡ e = let same : d ≡ suc j = omega arith in rw same (item-here j e es q .0) in
-      rw (eq-eqb (code (e .item)) castType (sym (ap (λ (x : Entry). code (x .item)) here) ∙ c)) (or-left (p (voteOf h e)) _ (rw here at t)))
+      let cast = eq-eqb (code (e .item)) castType (sym (ap (λ (x : Entry). code (x .item)) here) ∙ c) in
+      rw (votes-cast h e es cast) (or-left (p (voteOf h e)) _ (rw here at t)))
       (λ n. among-more p e es (cast-among p (suc j) es (turns h j e es q .after) d (omega arith) m c t))
 
   module _ {f : Format} {ws vs : List ℕ} (b : Passed f ws vs h) where
@@ -86,8 +88,9 @@ module _ (h : History) where
     last-casts j (e ∷ es) q =
         let rest = last-casts (suc j) es (turns h j e es q .after) in
         by-test (typed castType e)
-        (λ s. rw s (by-test (any (sameVoter (voteOf h e)) (votesIn h es)) (λ a. rw a rest) (λ a. rw a ((suc j, last-cast j e es q s a), rest))))
-        (λ s. rw s rest)
+        (λ s. rw (votes-cast h e es s)
+        (by-test (any (sameVoter (voteOf h e)) (votesIn h es)) (λ a. rw a rest) (λ a. rw a ((suc j, last-cast j e es q s a), rest))))
+        (λ s. rw (votes-other h e es s) rest)
 
     -- each counted ballot is that of the last cast of its voter
     pub counted-casts : Every (λ x. (c : ℕ) × LastCast h x c) (counted h)

@@ -12,19 +12,19 @@ use Rattle.model.specs.Counted.{Vote, LastCast}
 unfoldable pub ownItems : History → ℕ → List ℕ
 ownItems h cast =
     let ballot = entry h cast .parent in
-    let server = entry h ballot .parent in
-    let voter = entry h server .parent in
-    let session = entry h voter .parent in
-    session ∷ voter ∷ server ∷ ballot ∷ cast ∷ []
+    let serverCommitment = entry h ballot .parent in
+    let voterCommitment = entry h serverCommitment .parent in
+    let session = entry h voterCommitment .parent in
+    session ∷ voterCommitment ∷ serverCommitment ∷ ballot ∷ cast ∷ []
 
 abbrev pub ownTypes : List ℕ
 ownTypes = sessionType ∷ voterCommitmentType ∷ serverCommitmentType ∷ ballotType ∷ castType ∷ []
 
--- "five configuration items must precede the first session"
+-- "five configuration items must precede the first session", of these types
 abbrev pub configTypes : List ℕ
 configTypes = genesisType ∷ contestType ∷ thresholdType ∷ authorizerType ∷ roundType ∷ []
 
--- the numbers of the first items of these types
+-- the numbers of the first items of these types, 0 where there is none
 abbrev pub configItems : History → List ℕ
 configItems h = map (λ c. first (typed c) h) configTypes
 

@@ -5,7 +5,7 @@ use mathlib.Core.Path.{_≡_}
 use mathlib.Core.Logic.{_≢_}
 use mathlib.Core.Bool.{Bool, true, false, not}
 use mathlib.Core.Option.{Option, none, some}
-use mathlib.Core.List.{List, [], _∷_, _++_}
+use mathlib.Core.List.{List, [], _∷_, _++_, map}
 use lib.ListN.{length, getD}
 use lib.Dec.{T, leb, ltb}
 use Rattle.model.specs.Lists.{any}
@@ -30,6 +30,9 @@ pub record Reason : Type 0 where
 infix 80 _when_
 abbrev _when_ : ℕ → Bool → Reason
 n when b = record { number = n; applies = b }
+
+abbrev pub numbersOf : List Reason → List ℕ
+numbersOf = map (λ r. r .number)
 
 -- none of the reasons applies
 abbrev pub NoneOf : List Reason → Type 0
@@ -100,7 +103,7 @@ module _ (f : Format) (ws vs : List ℕ) (k : ℕ) where
       ∷ badSignature when not (signatureOk v)
       ∷ []
 
-  -- "At the closing word: 18, then 17", which request (viii) removed
+  -- "At the closing word: 18, then 17"; request (viii) removed 17
   unfoldable pub closingReasons : List Reason
   closingReasons =
       badClosing when not (closingOk ws vs (history f ws k) (placeOf f ws k))

@@ -161,17 +161,14 @@ module _ {board index ballots : List ℕ} {s : State} {c : Known} (p : Passing b
     counted-is = counted-more p cast ∙ rw (← voter)
 
     -- one row more still fits: the table has room for as many as there can be
-    pub rows-less : r < ballotLimit
-    rows-less = omega (arith, kept .number, rw (counted-is, length-append) at (next-fit p))
-
-    row-fits : ballotRow * r + ballotRow ≤ length l
-    row-fits = omega (arith, rows-less, t .room)
+    pub row-fits : (r < ballotLimit) × (ballotRow * r + ballotRow ≤ length l)
+    row-fits = let less : r < ballotLimit = omega (arith, kept .number, rw (counted-is, length-append) at (next-fit p)) in (less, omega (arith, t .room))
 
     pub after-cast : (ballot weight : ℕ) (more : List ℕ)
         → ballot ≡ vote p .ballot → weight ≡ vote p .weight → more ≡ sets l (ballotRow * r) (ballot ∷ v ∷ weight ∷ [])
         → Tallied board more (s .items + 1) × (r + 1 ≡ length (counted (before board (s .items + 1))))
     after-cast ballot weight more b w e =
-        let put = holds-put l r (without v (counted (before board (s .items)))) (vote p) kept row-fits in
+        let put = holds-put l r (without v (counted (before board (s .items)))) (vote p) kept (row-fits .1) in
         let same : more ≡ sets l (ballotRow * r) (vote p .ballot ∷ vote p .voter ∷ vote p .weight ∷ []) = e ∙ rw (b, voter, w) in (
           record { rows = rw (counted-is, same) (put .rows); room = rw (same, length-sets l (ballotRow * r) _) (omega (arith, t .room)) },
           rw counted-is (put .number),

@@ -14,7 +14,7 @@ use Rattle.state.specs.Stands.{Stands}
 use Rattle.tally.specs.Tallied.{Tallied}
 
 -- of the first n items, which pass
-pub counted-fit : {board index : List ℕ} {n : ℕ} → Kept board index n → length (counted (before board n)) ≤ ballotLimit
+counted-fit : {board index : List ℕ} {n : ℕ} → Kept board index n → length (counted (before board n)) ≤ ballotLimit
 counted-fit {board} {n = n} kept = few-ballots (kept .passed) (omega (arith, length-history base board n, kept .few))
 
 module _ {board index : List ℕ} {s : State} (kept : Kept board index (s .items)) (stands : Stands board s) where

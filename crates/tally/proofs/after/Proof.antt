@@ -1,11 +1,11 @@
 -- `after` meets its contract: what is read for a cast's row is what the model says of its vote. Assumes nothing.
 use mathlib.Core.Path.{_≡_, _∙_}
-use Prim.Native.Nat.{_+_, _<_}
+use Prim.Native.Nat.{_+_, _*_, _<_, _≤_}
 use lib.ListN.{length}
-use Rattle.model.specs.Audit.{ballotLimit}
+use Rattle.model.specs.Audit.{ballotLimit, ballotRow}
 use Rattle.index.proofs.Reading.{known-within}
 use Rattle.tally.proofs.Fit.{rows-fit}
-use Rattle.tally.proofs.Casts.{session-in, session-words, ballot-in, voter-is, weight-is, ballot-is, holds, after-same, rows-less, after-cast}
+use Rattle.tally.proofs.Casts.{session-in, session-words, ballot-in, voter-is, weight-is, ballot-is, holds, after-same, row-fits, after-cast}
 use native.Mathlib.Omega.{arith}
 use borrow.Author.Needs.{needs}
 use Rattle.tally.proofs.after.Statement.{statement}
@@ -56,23 +56,21 @@ without-voter-requires : tie.Need-without-voter-requires
 without-voter-requires c κs = let p = c .before .before .before .before .before .before .before .before .before .before .pre in rows-fit (p .0 .kept) (p .1) (p .2)
 
 -- one row more fits
-less : (c : tie.After-without-voter) → c .without-voter .result < ballotLimit
-less c =
+fits : (c : tie.After-without-voter)
+    → (c .without-voter .result < ballotLimit) × (ballotRow * c .without-voter .result + ballotRow ≤ length (c .without-voter .last .0))
+fits c =
     let read = c .before .before .before .before .before in
     let p = read .before .before .before .before .before .before .pre in
     let q = cast (read .before) in
     let w = c .without-voter in
-    rows-less (p .0) (p .1) (p .2) q _ (w .result) (voter-is (p .0) q (read .entry .result) (read .entry .ensures)) (w .last .0) (w .kept .0)
+    row-fits (p .0) (p .1) (p .2) q _ (w .result) (voter-is (p .0) q (read .entry .result) (read .entry .ensures)) (w .last .0) (w .kept .0)
     (w .ensures _ (holds (p .0) (p .1) (p .2)))
 
 put-row-requires : tie.Need-put-row-requires
-put-row-requires c κs =
-    let dropped = c .before .before .before in
-    let room = dropped .before .before .before .before .before .before .before .before .before .before .before .pre .2 .room in
-    omega (arith, less dropped, room, dropped .without-voter .kept .0)
+put-row-requires c κs = fits (c .before .before .before) .1
 
 add-result : tie.Need-add-result
-add-result c = let few = less (c .before .before .before .before .before .before) in omega arith
+add-result c = let few = fits (c .before .before .before .before .before .before) .0 in omega arith
 
 same-length : tie.Need-same-length
 same-length c = search needs
