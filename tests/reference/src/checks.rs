@@ -269,9 +269,11 @@ fn long_case(name: &dyn Fn(&str) -> String, seed: u64, random: &mut Random) -> C
     case
 }
 
-/// The voters of a full board: with five items each, five before them and an extraction's three
-/// behind, they make 2,048.
-const FULL: usize = 408;
+/// The voters of a full board, each counted: with five items each, five before them and an
+/// extraction's three behind, they make 2,048. This and the words of ballot table for their rows
+/// are written out, not taken from `format`, so that a wrong bound there is noticed.
+pub const FULL: usize = 408;
+pub const FULL_TABLE: usize = 1_224;
 
 /// A board of 2,048 items with 408 counted ballots, or fewer where voters cast again; sound, or
 /// with one thing wrong.
@@ -375,21 +377,21 @@ pub fn check_known(case: &Case) -> Result<u32, String> {
     check_known_with(case, INDEX_NEED + 5, BALLOTS_NEED + 4, &case.known)
 }
 
-/// The same with a ballot table of 1,224 words, and of one less, which is refused. Gives whether
-/// the counted ballots fill the table.
+/// The same with a ballot table for a full board, and with one word less, which is refused. Gives
+/// whether the counted ballots fill the table.
 pub fn check_full(case: &Case) -> Result<bool, String> {
-    check_known_with(case, INDEX_NEED, 1_224, &case.known)?;
-    check_known_with(case, INDEX_NEED, 1_223, &Known::Refused(2, 0))?;
+    check_known_with(case, INDEX_NEED, FULL_TABLE, &case.known)?;
+    check_known_with(case, INDEX_NEED, FULL_TABLE - 1, &Known::Refused(2, 0))?;
     let Known::Sound(expected, ..) = &case.known else { return Ok(false) };
     if expected.ballots.len() < FULL {
         return Ok(false);
     }
-    let (mut index, mut ballots) = (vec![0; INDEX_NEED], vec![0; 1_224]);
+    let (mut index, mut ballots) = (vec![0; INDEX_NEED], vec![0; FULL_TABLE]);
     let report = audit(&case.words, &case.verdicts, &mut index, &mut ballots);
     // The last word is a weight, which is at least 1; so is a ballot's main number.
     let all_used = ballots.chunks(BALLOT_ROW).all(|row| row[0] != 0 && row[2] != 0);
-    if report.ballots as usize != FULL || !all_used || ballots[1_223] == 0 {
-        return Err(format!("{}: 408 ballots do not fill the table", case.name));
+    if report.ballots as usize != FULL || !all_used || ballots[FULL_TABLE - 1] == 0 {
+        return Err(format!("{}: {FULL} ballots do not fill the table", case.name));
     }
     if report.weight <= u64::from(u32::MAX) {
         return Err(format!("{}: the weight was to need more than 32 bits", case.name));
@@ -474,14 +476,14 @@ pub fn check_hidden_tracks(seed: u64) -> Result<(), String> {
 const GUARD: usize = 8;
 
 /// A buffer with guard words on both sides, and what the reference makes of the same words.
-struct Lent {
+struct Buffer {
     guarded: Vec<u32>,
     before: Vec<u32>,
     reference: Vec<u32>,
 }
 
-impl Lent {
-    fn new(len: usize, random: &mut Random) -> Lent {
+impl Buffer {
+    fn new(len: usize, random: &mut Random) -> Buffer {
         // Junk that differs from word to word, at little cost.
         let mut word = random.word() | 1;
         let guarded: Vec<u32> = (0..len + 2 * GUARD)
@@ -490,7 +492,7 @@ impl Lent {
                 word
             })
             .collect();
-        Lent { before: guarded.clone(), reference: guarded[GUARD..GUARD + len].to_vec(), guarded }
+        Buffer { before: guarded.clone(), reference: guarded[GUARD..GUARD + len].to_vec(), guarded }
     }
 
     fn len(&self) -> usize {
@@ -523,7 +525,7 @@ impl Lent {
 }
 
 /// A length for a buffer that needs `need`: mostly enough, at times more, at times too short.
-fn lent_length(need: usize, random: &mut Random) -> usize {
+fn buffer_length(need: usize, random: &mut Random) -> usize {
     match random.below(60) {
         0 => need - 1,
         1 => random.below(need),
@@ -544,7 +546,7 @@ fn answer_length(need: usize, random: &mut Random) -> usize {
 }
 
 /// Writes the reference's answer where the interface would.
-fn put(answer: &mut Lent, words: &[u32]) {
+fn put(answer: &mut Buffer, words: &[u32]) {
     answer.reference[..words.len()].copy_from_slice(words);
 }
 
@@ -571,31 +573,32 @@ pub const FULL_LENGTHS: [Check; 3] = [check_audit_full, check_compare_full, chec
 
 /// A length that is more than a ballot table needs.
 fn longer(random: &mut Random) -> usize {
-    *random.pick(&[BALLOTS_NEED + 1, BALLOTS_NEED + BALLOT_ROW, 2_000, 6_144])
+    *random.pick(&[BALLOTS_NEED + 1, BALLOTS_NEED + BALLOT_ROW, 2_000, BALLOTS_NEED_BEFORE])
 }
 
 fn check_audit(with: &Interface, case: &Case, random: &mut Random, tally: &mut Tally) -> Result<(), String> {
-    let (index, ballots) = (lent_length(INDEX_NEED, random), lent_length(BALLOTS_NEED, random));
+    let (index, ballots) = (buffer_length(INDEX_NEED, random), buffer_length(BALLOTS_NEED, random));
     let answer = answer_length(AUDIT_ANSWER, random);
-    audit_lent(with, case, [index, ballots, answer], random, tally)
+    hold_audit(with, case, [index, ballots, answer], random, tally)
 }
 
 fn check_audit_full(with: &Interface, case: &Case, random: &mut Random, tally: &mut Tally) -> Result<(), String> {
     for ballots in [BALLOTS_NEED, BALLOTS_NEED - 1, longer(random)] {
-        audit_lent(with, case, [INDEX_NEED, ballots, AUDIT_ANSWER], random, tally)?;
+        hold_audit(with, case, [INDEX_NEED, ballots, AUDIT_ANSWER], random, tally)?;
     }
     Ok(())
 }
 
-/// The lengths are of the index table, the ballot table and the answer.
-fn audit_lent(
+/// Holds an audit to the reference. The lengths are of the index table, the ballot table and the
+/// answer.
+fn hold_audit(
     with: &Interface,
     case: &Case,
     lengths: [usize; 3],
     random: &mut Random,
     tally: &mut Tally,
 ) -> Result<(), String> {
-    let [mut index, mut ballots, mut answer] = lengths.map(|len| Lent::new(len, random));
+    let [mut index, mut ballots, mut answer] = lengths.map(|len| Buffer::new(len, random));
     let enough = answer.len() >= AUDIT_ANSWER;
     if enough {
         let report = audit(&case.words, &case.verdicts, &mut index.reference, &mut ballots.reference);
@@ -639,20 +642,21 @@ fn item_count(case: &Case) -> usize {
 }
 
 fn check_ancestry(with: &Interface, case: &Case, random: &mut Random, tally: &mut Tally) -> Result<(), String> {
-    let (index, ballots) = (lent_length(INDEX_NEED, random), lent_length(BALLOTS_NEED, random));
-    let (list, answer) = (lent_length(LIST_NEED, random), answer_length(ANCESTRY_ANSWER, random));
-    ancestry_lent(with, case, [index, ballots, list, answer], random, tally)
+    let (index, ballots) = (buffer_length(INDEX_NEED, random), buffer_length(BALLOTS_NEED, random));
+    let (list, answer) = (buffer_length(LIST_NEED, random), answer_length(ANCESTRY_ANSWER, random));
+    hold_ancestry(with, case, [index, ballots, list, answer], random, tally)
 }
 
 fn check_ancestry_full(with: &Interface, case: &Case, random: &mut Random, tally: &mut Tally) -> Result<(), String> {
     for ballots in [BALLOTS_NEED, BALLOTS_NEED - 1, longer(random)] {
-        ancestry_lent(with, case, [INDEX_NEED, ballots, LIST_NEED, ANCESTRY_ANSWER], random, tally)?;
+        hold_ancestry(with, case, [INDEX_NEED, ballots, LIST_NEED, ANCESTRY_ANSWER], random, tally)?;
     }
     Ok(())
 }
 
-/// The lengths are of the index table, the ballot table, the list and the answer.
-fn ancestry_lent(
+/// Holds an ancestry to the reference. The lengths are of the index table, the ballot table, the
+/// list and the answer.
+fn hold_ancestry(
     with: &Interface,
     case: &Case,
     lengths: [usize; 4],
@@ -660,7 +664,7 @@ fn ancestry_lent(
     tally: &mut Tally,
 ) -> Result<(), String> {
     let Some(entry) = with.ancestry else { return Ok(()) };
-    let [mut index, mut ballots, mut list, mut answer] = lengths.map(|len| Lent::new(len, random));
+    let [mut index, mut ballots, mut list, mut answer] = lengths.map(|len| Buffer::new(len, random));
     let number = asked(item_count(case), random);
     let enough = answer.len() >= ANCESTRY_ANSWER;
     let (words, verdicts) = (&case.words, &case.verdicts);
@@ -693,24 +697,25 @@ fn check_compare(with: &Interface, case: &Case, random: &mut Random, tally: &mut
         if random.chance(60) {
             need
         } else {
-            lent_length(need, random)
+            buffer_length(need, random)
         }
     });
     let answer = answer_length(COMPARE_ANSWER, random);
-    compare_lent(with, case, tables, answer, random, tally)
+    hold_compare(with, case, tables, answer, random, tally)
 }
 
 fn check_compare_full(with: &Interface, case: &Case, random: &mut Random, tally: &mut Tally) -> Result<(), String> {
     let need = BALLOTS_NEED;
     let more = longer(random);
     for (kept, later) in [(need, need), (need - 1, need), (need, need - 1), (more, more)] {
-        compare_lent(with, case, [INDEX_NEED, kept, INDEX_NEED, later], COMPARE_ANSWER, random, tally)?;
+        hold_compare(with, case, [INDEX_NEED, kept, INDEX_NEED, later], COMPARE_ANSWER, random, tally)?;
     }
     Ok(())
 }
 
-/// The lengths are of the kept board's two tables, the later one's, and the answer.
-fn compare_lent(
+/// Holds a comparison to the reference. The lengths are of the kept board's two tables, the later
+/// one's, and the answer.
+fn hold_compare(
     with: &Interface,
     case: &Case,
     lengths: [usize; 4],
@@ -725,8 +730,8 @@ fn compare_lent(
     // Often the number at which the kept board's end can stand.
     let mains = |board: &(&Vec<u32>, &Vec<u32>)| main_count(board.0);
     let number = if random.chance(50) { mains(&kept) } else { asked(mains(&later), random) };
-    let [mut ki, mut kb, mut li, mut lb] = lengths.map(|len| Lent::new(len, random));
-    let mut answer = Lent::new(answer_len, random);
+    let [mut ki, mut kb, mut li, mut lb] = lengths.map(|len| Buffer::new(len, random));
+    let mut answer = Buffer::new(answer_len, random);
     let enough = answer.len() >= COMPARE_ANSWER;
     if enough {
         let expected = compare(

@@ -32,7 +32,7 @@ pub struct Board<'a> {
     pub verdicts: &'a [u32],
 }
 
-/// The two tables lent for one board.
+/// The two tables passed for one board.
 pub struct Tables<'a> {
     pub index: &'a mut [u32],
     pub ballots: &'a mut [u32],

@@ -13,6 +13,9 @@ use std::sync::atomic::{AtomicUsize, Ordering};
 pub const AUDIT_ANSWER: usize = 14;
 pub const COMPARE_ANSWER: usize = 6;
 pub const ANCESTRY_ANSWER: usize = 2;
+/// What the ballot table needed before request (viii): a row for each item. A planted mistake
+/// asks for it still, and the checks pass it as a longer table.
+pub const BALLOTS_NEED_BEFORE: usize = 6_144;
 
 #[rustfmt::skip]
 pub type AuditEntry = unsafe extern "C" fn(
@@ -123,35 +126,35 @@ pub const MISTAKES: [&str; 15] = [
 /// From here on the mistakes are about the ballot table.
 pub const BALLOT_MISTAKES: usize = 11;
 
-/// Runs an entry with a lent ballot table, or with what a mistake makes of it.
-fn with_ballots<T>(lent: &mut [u32], run: impl FnOnce(&mut [u32]) -> T) -> T {
-    let len = lent.len();
+/// Runs an entry with the ballot table that was passed, or with what a mistake makes of it.
+fn with_ballots<T>(table: &mut [u32], run: impl FnOnce(&mut [u32]) -> T) -> T {
+    let len = table.len();
     match MISTAKE.load(Ordering::Relaxed) {
         // The reference refuses what is left.
-        11 if len < 6_144 => run(&mut lent[..len.min(BALLOTS_NEED - 1)]),
+        11 if len < BALLOTS_NEED_BEFORE => run(&mut table[..len.min(BALLOTS_NEED - 1)]),
         12 if (BALLOTS_NEED - BALLOT_ROW..BALLOTS_NEED).contains(&len) => {
-            let mut longer = lent.to_vec();
+            let mut longer = table.to_vec();
             longer.resize(BALLOTS_NEED, 0);
             let given = run(&mut longer);
-            lent.copy_from_slice(&longer[..len]);
+            table.copy_from_slice(&longer[..len]);
             given
         }
         13 if len >= BALLOTS_NEED => {
             let row = BALLOTS_NEED - BALLOT_ROW..BALLOTS_NEED;
-            let before = lent[row.clone()].to_vec();
-            let given = run(lent);
+            let before = table[row.clone()].to_vec();
+            let given = run(table);
             // Where no word is to be written, the row stays as it was.
-            if lent[row.clone()] != before {
-                lent[row].fill(0);
+            if table[row.clone()] != before {
+                table[row].fill(0);
             }
             given
         }
         14 if len < BALLOTS_NEED => {
-            let given = run(lent);
-            lent.fill(0);
+            let given = run(table);
+            table.fill(0);
             given
         }
-        _ => run(lent),
+        _ => run(table),
     }
 }
 

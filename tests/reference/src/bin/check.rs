@@ -8,7 +8,6 @@
 use reference::checks::*;
 use reference::collisions;
 use reference::crowded::crowded;
-use reference::format::{BALLOTS_NEED, MAX_BALLOTS};
 use reference::header::check_header;
 use reference::interface::{library, stand_in, Interface, BALLOT_MISTAKES, MISTAKE, MISTAKES};
 use reference::program::{bytes, program};
@@ -255,10 +254,10 @@ fn run_case(
     Ok(())
 }
 
-/// A sum over the words that are lent for reading, to see that they stay as they are.
+/// A sum over the words that are passed for reading, to see that they stay as they are.
 fn sum(case: &Case) -> u64 {
-    let lent = [&case.words, &case.verdicts, &case.other.0, &case.other.1];
-    lent.into_iter().flatten().fold(0u64, |sum, &word| sum.rotate_left(7).wrapping_add(u64::from(word) + 1))
+    let passed = [&case.words, &case.verdicts, &case.other.0, &case.other.1];
+    passed.into_iter().flatten().fold(0u64, |sum, &word| sum.rotate_left(7).wrapping_add(u64::from(word) + 1))
 }
 
 /// How many cases of each group make up a run of `cases`.
@@ -318,7 +317,7 @@ fn cases(options: &Options, with: Option<Interface>) {
     println!("           by reason   {} of {reasons}, each at least {least} times", total.by_reason.len());
     let [filled, fewer, refused] = total.full;
     println!(
-        "           full        {filled} with {MAX_BALLOTS} counted ballots fill a table of {BALLOTS_NEED} words, \
+        "           full        {filled} with {FULL} counted ballots fill a table of {FULL_TABLE} words, \
          {fewer} count fewer, {refused} are refused"
     );
     // All but 2, which takes a short table whatever the board is.
@@ -459,7 +458,12 @@ fn programs(options: &Options, path: &Path) {
     for seed in 0..4 {
         let shape = Shape { items: 5 + 5 * 59, words: None, long: 0, voters: 59, extraction: false };
         let laid = crowded(&mut Random::new(seed), shape).plan.lay(sha256);
-        run("59 counted ballots", Some(&bytes(&laid.words)), Some(&bytes(&laid.verdicts)));
+        let (board, verdicts) = (bytes(&laid.words), bytes(&laid.verdicts));
+        let printed = program(&board, &verdicts);
+        if !printed.starts_with("accepted 300 300 59 ") || printed.lines().count() != 1 + 59 {
+            fail(&format!("59 counted ballots, seed {seed}: made sound, the reference prints {printed:?}"));
+        }
+        run("59 counted ballots", Some(&board), Some(&verdicts));
     }
     // The largest board that the program takes.
     for seed in 0..4 {
