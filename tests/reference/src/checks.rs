@@ -2,7 +2,7 @@
 //! implementation behind the C interface held against the reference word by word.
 
 use crate::ancestry::ancestry;
-use crate::audit::audit;
+use crate::audit::{audit, refused, Report};
 use crate::compare::{compare, Board, Tables};
 use crate::crowded::crowded;
 use crate::damage::{damage_plan, damage_words, no_board};
@@ -135,6 +135,9 @@ fn board_for_faults(random: &mut Random) -> Made {
     make(random, sha256, shape)
 }
 
+/// Makes a case's name of what it is.
+type Name<'a> = &'a dyn Fn(&str) -> String;
+
 /// The case of a group and seed. The same seed gives the same case.
 pub fn case(makers: &Makers, group: Group, seed: u64) -> Case {
     let random = &mut Random::new(seed.wrapping_mul(8).wrapping_add(group as u64));
@@ -215,7 +218,7 @@ pub fn long_shape(which: u64, random: &mut Random) -> Shape {
     Shape { items, words, long: 20, voters: random.between(3, 300), extraction: random.chance(60) }
 }
 
-fn long_case(name: &dyn Fn(&str) -> String, seed: u64, random: &mut Random) -> Case {
+fn long_case(name: Name, seed: u64, random: &mut Random) -> Case {
     let shape = long_shape(seed, random);
     let made = make(random, sha256, shape);
     let mut case = sound_case(name("long, sound"), &made, random);
@@ -277,65 +280,99 @@ pub const FULL_TABLE: usize = 1_224;
 
 /// A board of 2,048 items with 408 counted ballots, or fewer where voters cast again; sound, or
 /// with one thing wrong.
-fn full_case(makers: &Makers, name: &dyn Fn(&str) -> String, seed: u64, random: &mut Random) -> Case {
-    let board = |items: usize, voters: usize, extraction: bool, random: &mut Random| {
-        let made = crowded(random, Shape { items, words: None, long: 20, voters, extraction });
-        assert_eq!(made.expected.ballots.len(), voters, "each voter counts once");
-        made
-    };
+fn full_case(makers: &Makers, name: Name, seed: u64, random: &mut Random) -> Case {
     let (which, turn) = (seed % 8, seed / 8);
-    if which == 1 || which == 7 {
-        let fewer = random.between(380, FULL - 2);
-        let voters = if which == 1 { FULL - 1 } else { *random.pick(&[FULL / 2, fewer, fewer]) };
-        let made = board(MAX_ITEMS, voters, random.chance(60), random);
-        let casts = made.plan.items.iter().filter(|s| s.code == CAST).count();
-        assert!(casts > voters, "some voter casts again");
-        return sound_case(name("full, cast again"), &made, random);
-    }
-    if which == 3 && turn % 2 == 1 {
-        let made = board(5 + 5 * (FULL + 1), FULL + 1, false, random);
-        let known = Known::Refused(1, MAX_ITEMS);
-        return faulty_case(name("full, a voter too many"), &made, &made.plan, known, random);
-    }
-    // Without an extraction there is room for three items that cast nothing.
-    let made = board(MAX_ITEMS, FULL, which != 2, random);
     match which {
-        3 => {
-            // Another intent, with all that it needs.
-            let mut plan = made.plan.clone();
-            let mut intent = plan.items[MAX_ITEMS - 3].clone();
-            intent.time = plan.items[MAX_ITEMS - 1].time;
-            plan.items.push(intent);
-            faulty_case(name("full, an item too many"), &made, &plan, Known::Refused(1, MAX_ITEMS), random)
+        1 | 7 => {
+            let fewer = random.between(380, FULL - 2);
+            let voters = if which == 1 { FULL - 1 } else { *random.pick(&[FULL / 2, fewer, fewer]) };
+            full_cast_again(name, voters, random)
         }
-        4 if turn % 5 == 1 => {
-            let mut plan = made.plan.clone();
-            plan.closing = Some(None);
-            faulty_case(name("full, no closing word"), &made, &plan, Known::Refused(4, MAX_ITEMS), random)
+        // Without an extraction there is room for three items that cast nothing.
+        2 => sound_case(name("full"), &full_board(MAX_ITEMS, FULL, false, random), random),
+        3 if turn % 2 == 1 => full_voter_too_many(name, random),
+        3 => full_item_too_many(name, random),
+        4 if turn % 5 == 1 => full_unclosed(name, random),
+        4 => full_faulty(makers, name, &at_close, random),
+        5 => full_bit_turned(name, turn, random),
+        // Every other one is about all counted ballots.
+        6 => {
+            let any = turn % 2 == 1;
+            let wanted = |fault: &Fault| !at_close(fault) && (any || fault.reason.contains("fingerprint"));
+            full_faulty(makers, name, &wanted, random)
         }
-        4 | 6 => loop {
-            let fault = random.pick(&makers.faults);
-            let at_close = fault.number == 18;
-            // Every other one of those before the close is about all counted ballots.
-            if at_close != (which == 4) || !at_close && turn % 2 == 0 && !fault.reason.contains("fingerprint") {
-                continue;
-            }
-            let Some(faulty) = fault.apply(&made, random) else { continue };
-            // An item put behind the last one would be over the limit.
-            if at_close != (faulty.items == MAX_ITEMS) {
-                continue;
-            }
+        _ => sound_case(name("full"), &full_board(MAX_ITEMS, FULL, true, random), random),
+    }
+}
+
+/// A board of so many items in which so many voters cast, each counted once.
+fn full_board(items: usize, voters: usize, extraction: bool, random: &mut Random) -> Made {
+    let made = crowded(random, Shape { items, words: None, long: 20, voters, extraction });
+    assert_eq!(made.expected.ballots.len(), voters, "each voter counts once");
+    made
+}
+
+/// A sound board of fewer voters than there is room for, some of whom cast again.
+fn full_cast_again(name: Name, voters: usize, random: &mut Random) -> Case {
+    let made = full_board(MAX_ITEMS, voters, random.chance(60), random);
+    let casts = made.plan.items.iter().filter(|s| s.code == CAST).count();
+    assert!(casts > voters, "some voter casts again");
+    sound_case(name("full, cast again"), &made, random)
+}
+
+/// A board of one voter more than there is room for: two items over the limit.
+fn full_voter_too_many(name: Name, random: &mut Random) -> Case {
+    let made = full_board(5 + 5 * (FULL + 1), FULL + 1, false, random);
+    faulty_case(name("full, a voter too many"), &made, &made.plan, Known::Refused(1, MAX_ITEMS), random)
+}
+
+/// A full board with another intent behind it, with all that it needs.
+fn full_item_too_many(name: Name, random: &mut Random) -> Case {
+    let made = full_board(MAX_ITEMS, FULL, true, random);
+    let mut plan = made.plan.clone();
+    let mut intent = plan.items[MAX_ITEMS - 3].clone();
+    intent.time = plan.items[MAX_ITEMS - 1].time;
+    plan.items.push(intent);
+    faulty_case(name("full, an item too many"), &made, &plan, Known::Refused(1, MAX_ITEMS), random)
+}
+
+/// A full board without a closing word.
+fn full_unclosed(name: Name, random: &mut Random) -> Case {
+    let made = full_board(MAX_ITEMS, FULL, true, random);
+    let mut plan = made.plan.clone();
+    plan.closing = Some(None);
+    faulty_case(name("full, no closing word"), &made, &plan, Known::Refused(4, MAX_ITEMS), random)
+}
+
+/// Whether a fault is seen only when all items have passed.
+fn at_close(fault: &Fault) -> bool {
+    fault.number == 18
+}
+
+/// A full board with a fault of those that are wanted.
+fn full_faulty(makers: &Makers, name: Name, wanted: &dyn Fn(&Fault) -> bool, random: &mut Random) -> Case {
+    let made = full_board(MAX_ITEMS, FULL, true, random);
+    loop {
+        let fault = random.pick(&makers.faults);
+        if !wanted(fault) {
+            continue;
+        }
+        let Some(faulty) = fault.apply(&made, random) else { continue };
+        // An item put behind the last one would be over the limit.
+        if at_close(fault) == (faulty.items == MAX_ITEMS) {
             let what = format!("full, {}", fault.reason);
             let known = Known::Refused(faulty.number, faulty.items);
             return faulty_case(name(&what), &made, &faulty.plan, known, random);
-        },
-        5 => {
-            let mut case = sound_case(name("full, a bit turned over"), &made, random);
-            turn_bit(&mut case, turn, random);
-            case
         }
-        _ => sound_case(name("full"), &made, random),
     }
+}
+
+/// A full board with a bit turned over.
+fn full_bit_turned(name: Name, turn: u64, random: &mut Random) -> Case {
+    let made = full_board(MAX_ITEMS, FULL, true, random);
+    let mut case = sound_case(name("full, a bit turned over"), &made, random);
+    turn_bit(&mut case, turn, random);
+    case
 }
 
 /// Turns a bit of a sound board over, in a part that goes by turns, and notes what it is then.
@@ -399,56 +436,89 @@ pub fn check_full(case: &Case) -> Result<bool, String> {
     Ok(true)
 }
 
+/// The same with tables of these lengths, against what is known of the case with them.
 fn check_known_with(case: &Case, index_len: usize, ballots_len: usize, known: &Known) -> Result<u32, String> {
-    let (mut index, mut ballots) = (vec![0xdead; index_len], vec![0xbeef; ballots_len]);
-    let report = audit(&case.words, &case.verdicts, &mut index, &mut ballots);
-    let fail = |what: &str| Err(format!("{}: the reference has {what} other than it was made", case.name));
-    match known {
-        Known::Nothing => {}
-        Known::Refused(number, items) => {
-            if (report.number, report.items as usize) != (*number, *items) {
-                return Err(format!(
-                    "{}: made to be refused {number} at {items}, the reference says {} at {}",
-                    case.name, report.number, report.items
-                ));
-            }
-            let untouched = *number == 2 || *number == 1 && *items == 0;
-            let (i, b) = if untouched { (0xdead, 0xbeef) } else { (0, 0) };
-            if index.iter().any(|&w| w != i) || ballots.iter().any(|&w| w != b) {
-                return fail("tables");
-            }
-            if report != crate::audit::refused(*number, *items) {
-                return fail("fields of a refusal");
-            }
-        }
-        Known::Sound(expected, places, end) => {
-            let weight: u64 = expected.ballots.iter().map(|row| u64::from(row[2])).sum();
-            if report.number != 0 {
-                return Err(format!("{}: made sound, refused {} at {}", case.name, report.number, report.items));
-            }
-            let counts = (report.items as usize, report.mains as usize, report.ballots as usize);
-            if counts != (expected.rows.len(), expected.mains, expected.ballots.len()) {
-                return fail("counts");
-            }
-            if report.weight != weight || report.end != *end {
-                return fail("weight or end address");
-            }
-            let mut rows: Vec<u32> = Vec::new();
-            for (row, &place) in expected.rows.iter().zip(places) {
-                rows.extend([place as u32, row[0], row[1], row[2]]);
-            }
-            rows.resize(index.len(), 0);
-            if index != rows {
-                return fail("index rows");
-            }
-            let mut rows: Vec<u32> = expected.ballots.concat();
-            rows.resize(ballots.len(), 0);
-            if ballots != rows {
-                return fail("ballot rows");
-            }
-        }
+    let audited = Audited::new(case, index_len, ballots_len);
+    let held = match known {
+        Known::Nothing => Ok(()),
+        Known::Refused(number, items) => audited.check_refused(*number, *items),
+        Known::Sound(expected, places, end) => audited.check_sound(expected, places, *end),
+    };
+    held.map_err(|message| format!("{}: {message}", case.name))?;
+    Ok(audited.report.number)
+}
+
+/// What the tables hold in every word before an audit.
+const INDEX_JUNK: u32 = 0xdead;
+const BALLOTS_JUNK: u32 = 0xbeef;
+
+/// What the reference says of a board, and the tables after it.
+struct Audited {
+    report: Report,
+    index: Vec<u32>,
+    ballots: Vec<u32>,
+}
+
+impl Audited {
+    fn new(case: &Case, index_len: usize, ballots_len: usize) -> Audited {
+        let (mut index, mut ballots) = (vec![INDEX_JUNK; index_len], vec![BALLOTS_JUNK; ballots_len]);
+        let report = audit(&case.words, &case.verdicts, &mut index, &mut ballots);
+        Audited { report, index, ballots }
     }
-    Ok(report.number)
+
+    /// Whether the board is refused so, with the tables cleared, or left alone where nothing was read.
+    fn check_refused(&self, number: u32, items: usize) -> Result<(), String> {
+        let given = &self.report;
+        if (given.number, given.items as usize) != (number, items) {
+            return Err(format!(
+                "made to be refused {number} at {items}, the reference says {} at {}",
+                given.number, given.items
+            ));
+        }
+        let untouched = number == 2 || number == 1 && items == 0;
+        let (i, b) = if untouched { (INDEX_JUNK, BALLOTS_JUNK) } else { (0, 0) };
+        if self.index.iter().any(|&w| w != i) || self.ballots.iter().any(|&w| w != b) {
+            return other_than_made("tables");
+        }
+        if *given != refused(number, items) {
+            return other_than_made("fields of a refusal");
+        }
+        Ok(())
+    }
+
+    /// Whether the board is accepted with what is expected, and nothing else is in the tables.
+    fn check_sound(&self, expected: &Expected, places: &[usize], end: [u32; 8]) -> Result<(), String> {
+        let given = &self.report;
+        if given.number != 0 {
+            return Err(format!("made sound, refused {} at {}", given.number, given.items));
+        }
+        let counts = (given.items as usize, given.mains as usize, given.ballots as usize);
+        if counts != (expected.rows.len(), expected.mains, expected.ballots.len()) {
+            return other_than_made("counts");
+        }
+        let weight: u64 = expected.ballots.iter().map(|row| u64::from(row[2])).sum();
+        if given.weight != weight || given.end != end {
+            return other_than_made("weight or end address");
+        }
+        let mut rows: Vec<u32> = Vec::new();
+        for (row, &place) in expected.rows.iter().zip(places) {
+            rows.extend([place as u32, row[0], row[1], row[2]]);
+        }
+        rows.resize(self.index.len(), 0);
+        if self.index != rows {
+            return other_than_made("index rows");
+        }
+        let mut rows: Vec<u32> = expected.ballots.concat();
+        rows.resize(self.ballots.len(), 0);
+        if self.ballots != rows {
+            return other_than_made("ballot rows");
+        }
+        Ok(())
+    }
+}
+
+fn other_than_made(what: &str) -> Result<(), String> {
+    Err(format!("the reference has {what} other than it was made"))
 }
 
 /// Other hidden tracks and signatures never change what is reported of the main list.
@@ -550,12 +620,12 @@ fn put(answer: &mut Buffer, words: &[u32]) {
     answer.reference[..words.len()].copy_from_slice(words);
 }
 
-fn result(entry: &str, given: bool, expected: bool) -> Result<(), String> {
-    if given == expected {
-        Ok(())
-    } else {
-        Err(format!("{entry} gives {given}, not {expected}"))
+/// Holds an entry's result to the one expected, and its buffers to the reference.
+fn agree(entry: &str, given: bool, expected: bool, buffers: &[(&Buffer, &str)]) -> Result<(), String> {
+    if given != expected {
+        return Err(format!("{entry} gives {given}, not {expected}"));
     }
+    buffers.iter().try_for_each(|(buffer, what)| buffer.same(what))
 }
 
 /// How often an entry gave each answer: by refusal number, or for comparing 20 apart, 21 same,
@@ -616,10 +686,8 @@ fn hold_audit(
             words.as_ptr(), words.len(), verdicts.as_ptr(), verdicts.len(),
             index.pointer(), il, ballots.pointer(), bl, answer.pointer(), al)
     };
-    result("audit", given, enough)?;
-    answer.same("audit's answer")?;
-    index.same("index table")?;
-    ballots.same("ballot table")
+    let buffers = [(&answer, "audit's answer"), (&index, "index table"), (&ballots, "ballot table")];
+    agree("audit", given, enough, &buffers)
 }
 
 /// A number to ask for: mostly one that exists, at times none, past the end, or past 32 bits.
@@ -683,17 +751,14 @@ fn hold_ancestry(
             words.as_ptr(), words.len(), verdicts.as_ptr(), verdicts.len(), number,
             index.pointer(), il, ballots.pointer(), bl, list.pointer(), ll, answer.pointer(), al)
     };
-    let told = |message: String| format!("ancestry of item {number}: {message}");
-    result("ancestry", given, enough).map_err(told)?;
-    answer.same("ancestry's answer").map_err(told)?;
-    list.same("list").map_err(told)?;
-    index.same("index table").map_err(told)?;
-    ballots.same("ballot table").map_err(told)
+    let buffers =
+        [(&answer, "ancestry's answer"), (&list, "list"), (&index, "index table"), (&ballots, "ballot table")];
+    agree("ancestry", given, enough, &buffers).map_err(|message| format!("ancestry of item {number}: {message}"))
 }
 
 fn check_compare(with: &Interface, case: &Case, random: &mut Random, tally: &mut Tally) -> Result<(), String> {
     // Four buffers: one too short is enough now and then.
-    let tables = [INDEX_NEED, BALLOTS_NEED, INDEX_NEED, BALLOTS_NEED].map(|need| {
+    let [ki, kb, li, lb] = [INDEX_NEED, BALLOTS_NEED, INDEX_NEED, BALLOTS_NEED].map(|need| {
         if random.chance(60) {
             need
         } else {
@@ -701,14 +766,14 @@ fn check_compare(with: &Interface, case: &Case, random: &mut Random, tally: &mut
         }
     });
     let answer = answer_length(COMPARE_ANSWER, random);
-    hold_compare(with, case, tables, answer, random, tally)
+    hold_compare(with, case, [ki, kb, li, lb, answer], random, tally)
 }
 
 fn check_compare_full(with: &Interface, case: &Case, random: &mut Random, tally: &mut Tally) -> Result<(), String> {
     let need = BALLOTS_NEED;
     let more = longer(random);
     for (kept, later) in [(need, need), (need - 1, need), (need, need - 1), (more, more)] {
-        hold_compare(with, case, [INDEX_NEED, kept, INDEX_NEED, later], COMPARE_ANSWER, random, tally)?;
+        hold_compare(with, case, [INDEX_NEED, kept, INDEX_NEED, later, COMPARE_ANSWER], random, tally)?;
     }
     Ok(())
 }
@@ -718,51 +783,60 @@ fn check_compare_full(with: &Interface, case: &Case, random: &mut Random, tally:
 fn hold_compare(
     with: &Interface,
     case: &Case,
-    lengths: [usize; 4],
-    answer_len: usize,
+    lengths: [usize; 5],
     random: &mut Random,
     tally: &mut Tally,
 ) -> Result<(), String> {
     let Some(entry) = with.compare else { return Ok(()) };
-    let own = (&case.words, &case.verdicts);
-    let other = (&case.other.0, &case.other.1);
-    let (kept, later) = if case.kept { (own, other) } else { (other, own) };
-    // Often the number at which the kept board's end can stand.
-    let mains = |board: &(&Vec<u32>, &Vec<u32>)| main_count(board.0);
-    let number = if random.chance(50) { mains(&kept) } else { asked(mains(&later), random) };
-    let [mut ki, mut kb, mut li, mut lb] = lengths.map(|len| Buffer::new(len, random));
-    let mut answer = Buffer::new(answer_len, random);
+    let (kept, later) = kept_and_later(case);
+    let number = asked_main(kept, later, random);
+    let [mut ki, mut kb, mut li, mut lb, mut answer] = lengths.map(|len| Buffer::new(len, random));
     let enough = answer.len() >= COMPARE_ANSWER;
     if enough {
-        let expected = compare(
-            Board { words: kept.0, verdicts: kept.1 },
-            Board { words: later.0, verdicts: later.1 },
-            number,
-            Tables { index: &mut ki.reference, ballots: &mut kb.reference },
-            Tables { index: &mut li.reference, ballots: &mut lb.reference },
-        );
-        let words = compare_words(&expected);
+        let of_kept = Tables { index: &mut ki.reference, ballots: &mut kb.reference };
+        let of_later = Tables { index: &mut li.reference, ballots: &mut lb.reference };
+        let words = compare_words(&compare(kept, later, number, of_kept, of_later));
         put(&mut answer, &words);
         tally[if words[0] == 0 { words[2] as usize } else { 19 + words[0] as usize }] += 1;
     } else {
         tally[23] += 1;
     }
-    let al = answer.len();
     #[rustfmt::skip]
     let given = unsafe {
         entry(
-            kept.0.as_ptr(), kept.0.len(), kept.1.as_ptr(), kept.1.len(),
-            later.0.as_ptr(), later.0.len(), later.1.as_ptr(), later.1.len(), number,
+            kept.words.as_ptr(), kept.words.len(), kept.verdicts.as_ptr(), kept.verdicts.len(),
+            later.words.as_ptr(), later.words.len(), later.verdicts.as_ptr(), later.verdicts.len(), number,
             ki.pointer(), lengths[0], kb.pointer(), lengths[1],
-            li.pointer(), lengths[2], lb.pointer(), lengths[3], answer.pointer(), al)
+            li.pointer(), lengths[2], lb.pointer(), lengths[3], answer.pointer(), lengths[4])
     };
-    let told = |message: String| format!("compare at main {number}: {message}");
-    result("compare", given, enough).map_err(told)?;
-    answer.same("comparison's answer").map_err(told)?;
-    ki.same("kept index table").map_err(told)?;
-    kb.same("kept ballot table").map_err(told)?;
-    li.same("later index table").map_err(told)?;
-    lb.same("later ballot table").map_err(told)
+    let buffers = [
+        (&answer, "comparison's answer"),
+        (&ki, "kept index table"),
+        (&kb, "kept ballot table"),
+        (&li, "later index table"),
+        (&lb, "later ballot table"),
+    ];
+    agree("compare", given, enough, &buffers).map_err(|message| format!("compare at main {number}: {message}"))
+}
+
+/// A case's two boards, the kept one first.
+fn kept_and_later(case: &Case) -> (Board<'_>, Board<'_>) {
+    let own = Board { words: &case.words, verdicts: &case.verdicts };
+    let other = Board { words: &case.other.0, verdicts: &case.other.1 };
+    if case.kept {
+        (own, other)
+    } else {
+        (other, own)
+    }
+}
+
+/// A main number to compare at: often the one at which the kept board's end can stand.
+fn asked_main(kept: Board, later: Board, random: &mut Random) -> usize {
+    if random.chance(50) {
+        main_count(kept.words)
+    } else {
+        asked(main_count(later.words), random)
+    }
 }
 
 /// The main items by a walk over the heads, as far as it goes.

@@ -24,6 +24,9 @@ const MORE: [&[u32]; 7] = [
 /// One more item of a voter: who, and its type.
 type Step = (usize, u32);
 
+/// A cast: position of the ballot, voter, weight.
+type Cast = (usize, u32, u32);
+
 /// A voter, with the latest session's weight and key.
 struct Voter {
     number: u32,
@@ -46,6 +49,23 @@ enum Weights {
 pub fn crowded(random: &mut Random, shape: Shape) -> Made {
     let mut maker = Maker::new(random, sha256, shape);
     maker.genesis();
+    add_config(&mut maker);
+    let steps = steps(shape, maker.random);
+    let times = times(&mut maker, steps.len());
+    add_round(&mut maker, times[0], times[times.len() - 1]);
+    let casts = add_votes(&mut maker, shape.voters, &steps, &times);
+    maker.counted = last_casts(&casts);
+    if shape.extraction {
+        maker.intent();
+        maker.extraction();
+        maker.confirm(false);
+    }
+    assert_eq!(maker.items.len(), shape.items, "the items add up");
+    maker.finish()
+}
+
+/// A contest, a threshold and an authorizer, in some order.
+fn add_config(maker: &mut Maker) {
     let mut config = [CONTEST, THRESHOLD, AUTHORIZER];
     maker.random.shuffle(&mut config);
     for code in config {
@@ -55,34 +75,30 @@ pub fn crowded(random: &mut Random, shape: Shape) -> Made {
             _ => maker.add_authorizer(),
         }
     }
-    let steps = steps(shape, maker.random);
-    let times = times(&mut maker, steps.len());
-    add_round(&mut maker, times[0], times[times.len() - 1]);
+}
 
+/// The voters' items, each at its time. Gives all casts in board order.
+fn add_votes(maker: &mut Maker, count: usize, steps: &[Step], times: &[u64]) -> Vec<Cast> {
     let weights = *maker.random.pick(&[Weights::Greatest, Weights::Any, Weights::Mixed]);
-    let mut voters: Vec<Voter> = numbers(shape.voters, maker.random)
+    let mut voters: Vec<Voter> = numbers(count, maker.random)
         .into_iter()
         .map(|number| Voter { number, weight: 0, key: ZEROS, latest: [0; 4] })
         .collect();
-    // Position of the ballot, voter, weight.
-    let mut casts: Vec<(usize, u32, u32)> = Vec::new();
-    for (&(who, code), time) in steps.iter().zip(times) {
+    let mut casts = Vec::new();
+    for (&(who, code), &time) in steps.iter().zip(times) {
         let voter = &mut voters[who];
         if code == CAST {
             casts.push((voter.latest[3], voter.number, voter.weight));
         }
-        add_step(&mut maker, voter, code, time, weights);
+        add_step(maker, voter, code, time, weights);
     }
-    // Of each voter the last cast, in board order.
+    casts
+}
+
+/// Of each voter the last cast, in board order.
+fn last_casts(casts: &[Cast]) -> Vec<Cast> {
     let is_last = |i: usize| casts[i + 1..].iter().all(|later| later.1 != casts[i].1);
-    maker.counted = (0..casts.len()).filter(|&i| is_last(i)).map(|i| casts[i]).collect();
-    if shape.extraction {
-        maker.intent();
-        maker.extraction();
-        maker.confirm(false);
-    }
-    assert_eq!(maker.items.len(), shape.items, "the items add up");
-    maker.finish()
+    (0..casts.len()).filter(|&i| is_last(i)).map(|i| casts[i]).collect()
 }
 
 /// Who adds what, in board order.

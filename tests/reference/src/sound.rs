@@ -123,21 +123,26 @@ fn try_make(random: &mut Random, hash: Hash, shape: Shape) -> Option<Made> {
     Some(maker.finish())
 }
 
+/// The time of the genesis: 0, near it, of these years, or soon to need more than 32 bits.
+fn first_time(random: &mut Random) -> u64 {
+    match random.below(4) {
+        0 => 0,
+        1 => random.below(5) as u64,
+        2 => 1_790_000_000_000 + random.below(1_000_000_000) as u64,
+        _ => (1 << 32) - random.below(2_000) as u64,
+    }
+}
+
 impl Maker<'_> {
     pub(crate) fn new(random: &mut Random, hash: Hash, shape: Shape) -> Maker<'_> {
-        let first_time = match random.below(4) {
-            0 => 0,
-            1 => random.below(5) as u64,
-            2 => 1_790_000_000_000 + random.below(1_000_000_000) as u64,
-            _ => (1 << 32) - random.below(2_000) as u64,
-        };
+        let now = first_time(random);
         let mut maker = Maker {
             hash,
             shape,
             items: Vec::new(),
             words: 1,
             expected: Expected::default(),
-            now: first_time,
+            now,
             administrator: random.eight(),
             ballot_box: random.eight(),
             authorizer: ZEROS,

@@ -19,8 +19,8 @@ use std::collections::BTreeMap;
 use std::fs;
 use std::path::{Path, PathBuf};
 use std::process::{exit, Command};
-use std::sync::atomic::{AtomicBool, Ordering};
-use std::sync::Mutex;
+use std::sync::atomic::{AtomicBool, AtomicUsize, Ordering};
+use std::thread;
 use std::time::Instant;
 
 struct Options {
@@ -220,29 +220,11 @@ fn run_case(
 ) -> Result<(), (Case, String)> {
     let case = case(makers, group, seed);
     let random = &mut Random::new(seed ^ 0x5eed);
-    let before = sum(&case);
-    let mut all = || -> Result<(), String> {
-        let number = check_known(&case)?;
-        *counts.by_number.entry(number).or_default() += 1;
-        if group == Group::Full {
-            let filled = check_full(&case)?;
-            counts.full[if filled { 0 } else { 1 + usize::from(number != 0) }] += 1;
-        }
-        if let Some(with) = with {
-            let tallies = [&mut counts.audit, &mut counts.compare, &mut counts.ancestry];
-            for (entry, tally) in tallies.into_iter().enumerate() {
-                ANY_LENGTH[entry](&with, &case, random, tally)?;
-                if group == Group::Full {
-                    FULL_LENGTHS[entry](&with, &case, random, tally)?;
-                }
-            }
-            if sum(&case) != before {
-                return Err("a word of a board or of its verdicts was written".to_string());
-            }
-        }
-        Ok(())
-    };
-    if let Err(message) = all() {
+    let held = hold_reference(&case, group, counts).and_then(|()| match with {
+        Some(with) => hold_library(&with, &case, group, random, counts),
+        None => Ok(()),
+    });
+    if let Err(message) = held {
         return Err((case, message));
     }
     counts.boards += 1;
@@ -250,6 +232,39 @@ fn run_case(
     if group == Group::Faults {
         let reason = &makers.faults[seed as usize % makers.faults.len()].reason;
         *counts.by_reason.entry(reason.clone()).or_default() += 1;
+    }
+    Ok(())
+}
+
+/// Whether the reference says of a case what its making does.
+fn hold_reference(case: &Case, group: Group, counts: &mut Counts) -> Result<(), String> {
+    let number = check_known(case)?;
+    *counts.by_number.entry(number).or_default() += 1;
+    if group == Group::Full {
+        let filled = check_full(case)?;
+        counts.full[if filled { 0 } else { 1 + usize::from(number != 0) }] += 1;
+    }
+    Ok(())
+}
+
+/// Whether every entry says of a case what the reference does, and leaves the boards as they are.
+fn hold_library(
+    with: &Interface,
+    case: &Case,
+    group: Group,
+    random: &mut Random,
+    counts: &mut Counts,
+) -> Result<(), String> {
+    let before = sum(case);
+    let tallies = [&mut counts.audit, &mut counts.compare, &mut counts.ancestry];
+    for (entry, tally) in tallies.into_iter().enumerate() {
+        ANY_LENGTH[entry](with, case, random, tally)?;
+        if group == Group::Full {
+            FULL_LENGTHS[entry](with, case, random, tally)?;
+        }
+    }
+    if sum(case) != before {
+        return Err("a word of a board or of its verdicts was written".to_string());
     }
     Ok(())
 }
@@ -276,36 +291,52 @@ fn shares(cases: u64) -> Vec<(Group, u64)> {
 
 fn cases(options: &Options, with: Option<Interface>) {
     let start = Instant::now();
+    let total = run_cases(options, with);
+    print_reference(options, &total, start.elapsed().as_secs_f64());
+    if options.cases >= 5_000 && !all_made(&total) {
+        fail("some refusal, reason or full board was not made");
+    }
+    if let Some(with) = with {
+        print_library(&with, &total);
+    }
+}
+
+/// Runs all cases, two at a time, and gives what they gave; a difference is reported.
+fn run_cases(options: &Options, with: Option<Interface>) -> Counts {
     let work: Vec<(Group, u64)> = shares(options.cases)
         .into_iter()
         .flat_map(|(group, count)| (0..count).map(move |i| (group, options.seed + i)))
         .collect();
-    let failed = AtomicBool::new(false);
-    let failure = Mutex::new(None);
-    let total = Mutex::new(Counts::default());
-    let next = std::sync::atomic::AtomicUsize::new(0);
-    std::thread::scope(|scope| {
-        for _ in 0..2 {
-            scope.spawn(|| {
-                let makers = Makers::default();
-                let mut counts = Counts::default();
-                while !failed.load(Ordering::Relaxed) {
-                    let at = next.fetch_add(1, Ordering::Relaxed);
-                    let Some(&(group, seed)) = work.get(at) else { break };
-                    if let Err(found) = run_case(&makers, with, group, seed, &mut counts) {
-                        failed.store(true, Ordering::Relaxed);
-                        failure.lock().unwrap().get_or_insert(found);
-                    }
-                }
-                merge(&mut total.lock().unwrap(), counts);
-            });
+    let (next, failed) = (AtomicUsize::new(0), AtomicBool::new(false));
+    let run_some = || {
+        let makers = Makers::default();
+        let mut counts = Counts::default();
+        while !failed.load(Ordering::Relaxed) {
+            let at = next.fetch_add(1, Ordering::Relaxed);
+            let Some(&(group, seed)) = work.get(at) else { break };
+            if let Err(found) = run_case(&makers, with, group, seed, &mut counts) {
+                failed.store(true, Ordering::Relaxed);
+                return Err(found);
+            }
         }
+        Ok(counts)
+    };
+    let parts = thread::scope(|scope| {
+        let threads = [scope.spawn(run_some), scope.spawn(run_some)];
+        threads.map(|thread| thread.join().expect("the cases run to their end"))
     });
-    if let Some((case, message)) = failure.into_inner().unwrap() {
-        report(options, &case, &message);
+    let mut total = Counts::default();
+    for part in parts {
+        match part {
+            Ok(counts) => merge(&mut total, counts),
+            Err((case, message)) => report(options, &case, &message),
+        }
     }
-    let total = total.into_inner().unwrap();
-    let seconds = start.elapsed().as_secs_f64();
+    total
+}
+
+/// What the reference was held to: boards by refusal, by reason, and full ones.
+fn print_reference(options: &Options, total: &Counts, seconds: f64) {
     println!(
         "reference  {} boards, {} words, seed {}, agree with their making ({seconds:.1} s)",
         total.boards, total.words, options.seed
@@ -320,25 +351,30 @@ fn cases(options: &Options, with: Option<Interface>) {
         "           full        {filled} with {FULL} counted ballots fill a table of {FULL_TABLE} words, \
          {fewer} count fewer, {refused} are refused"
     );
+}
+
+/// Whether every refusal, every reason and enough full boards of each kind were made.
+fn all_made(total: &Counts) -> bool {
     // All but 2, which takes a short table whatever the board is.
-    let missing = [1].into_iter().chain(3..=16).chain([18]).filter(|n| !total.by_number.contains_key(n)).count();
-    let full_made = filled >= 5 && fewer >= 5 && refused >= 10;
-    if options.cases >= 5_000 && (missing > 0 || total.by_reason.len() < reasons || !full_made) {
-        fail("some refusal, reason or full board was not made");
-    }
-    if let Some(with) = with {
-        let entries = [
-            ("audit", true, total.audit),
-            ("compare", with.compare.is_some(), total.compare),
-            ("ancestry", with.ancestry.is_some(), total.ancestry),
-        ];
-        for (name, linked, tally) in entries {
-            if linked {
-                let calls = tally.iter().sum::<usize>();
-                println!("library    {name:<9} {calls} calls agree in every word: {}", told(&tally));
-            } else {
-                println!("library    {name:<9} SKIPPED: the library has no such entry");
-            }
+    let refusals = [1].into_iter().chain(3..=16).chain([18]).all(|n| total.by_number.contains_key(&n));
+    let reasons = total.by_reason.len() >= Makers::default().faults.len();
+    let [filled, fewer, refused] = total.full;
+    refusals && reasons && filled >= 5 && fewer >= 5 && refused >= 10
+}
+
+/// What each of the library's entries was held to, or that it has no such entry.
+fn print_library(with: &Interface, total: &Counts) {
+    let entries = [
+        ("audit", true, &total.audit),
+        ("compare", with.compare.is_some(), &total.compare),
+        ("ancestry", with.ancestry.is_some(), &total.ancestry),
+    ];
+    for (name, linked, tally) in entries {
+        if linked {
+            let calls = tally.iter().sum::<usize>();
+            println!("library    {name:<9} {calls} calls agree in every word: {}", told(tally));
+        } else {
+            println!("library    {name:<9} SKIPPED: the library has no such entry");
         }
     }
 }
@@ -411,39 +447,42 @@ fn only(options: &Options, group: Group, seed: u64) {
     }
 }
 
-/// Runs the auditing program on stored boards and on made ones, with files of odd sizes.
-fn programs(options: &Options, path: &Path) {
-    let path = fs::canonicalize(path).unwrap_or_else(|e| fail(&format!("{}: {e}", path.display())));
-    let folder = std::env::temp_dir().join(format!("tirfolma-check-{}", std::process::id()));
-    let mut count = 0;
-    let mut run = |name: &str, board: Option<&[u8]>, verdicts: Option<&[u8]>| {
-        let _ = fs::remove_dir_all(&folder);
-        fs::create_dir_all(&folder).expect("a folder for temporary files");
+/// The auditing program, and a folder for its files.
+struct Auditor {
+    path: PathBuf,
+    folder: PathBuf,
+    runs: usize,
+}
+
+impl Auditor {
+    /// Runs it on these files and holds what it prints to the reference; none: there is no such file.
+    fn hold(&mut self, name: &str, board: Option<&[u8]>, verdicts: Option<&[u8]>) {
+        let _ = fs::remove_dir_all(&self.folder);
+        fs::create_dir_all(&self.folder).expect("a folder for temporary files");
         for (file, content) in [("board.words", board), ("verdicts.words", verdicts)] {
             if let Some(content) = content {
-                fs::write(folder.join(file), content).expect("a temporary file");
+                fs::write(self.folder.join(file), content).expect("a temporary file");
             }
         }
-        let output = Command::new(&path).current_dir(&folder).output();
-        let output = output.unwrap_or_else(|e| fail(&format!("{}: {e}", path.display())));
+        let output = Command::new(&self.path).current_dir(&self.folder).output();
+        let output = output.unwrap_or_else(|e| fail(&format!("{}: {e}", self.path.display())));
         let expected = program(board.unwrap_or(&[]), verdicts.unwrap_or(&[]));
         if output.stdout != expected.as_bytes() {
             let printed = String::from_utf8_lossy(&output.stdout).into_owned();
             fail(&format!(
                 "program, {name}: prints {printed:?}, by the reference {expected:?}; see {}",
-                folder.display()
+                self.folder.display()
             ));
         }
-        count += 1;
-    };
-    run("no files", None, None);
-    let makers = Makers::default();
-    for seed in 0..400 {
-        let group = GROUPS[seed as usize % 5];
-        let case = case(&makers, group, options.seed + seed);
+        self.runs += 1;
+    }
+
+    /// Holds it on a case, the files of which are at times cut, longer or missing.
+    fn hold_odd(&mut self, case: &Case, seed: u64) {
         let (mut board, mut verdicts) = (bytes(&case.words), bytes(&case.verdicts));
         let random = &mut Random::new(seed);
-        match seed % 16 {
+        let kind = seed % 16;
+        match kind {
             1 => board.truncate(board.len().saturating_sub(random.between(1, 3))),
             2 => verdicts.extend(vec![0; random.between(1, 3)]),
             3 => verdicts.extend(vec![0; 4 * random.between(1, 200_000)]),
@@ -452,24 +491,42 @@ fn programs(options: &Options, path: &Path) {
             6 => board.resize(100_000 * 4 + random.below(2), 0),
             _ => {}
         }
-        run(&case.name, (seed % 16 != 7).then_some(&board[..]), (seed % 16 != 8).then_some(&verdicts[..]));
+        self.hold(&case.name, (kind != 7).then_some(&board[..]), (kind != 8).then_some(&verdicts[..]));
     }
-    // As many counted ballots as a board that the program takes can have.
+}
+
+/// The files of a board with as many counted ballots as one that the program takes can have.
+fn most_ballots(seed: u64) -> (Vec<u8>, Vec<u8>) {
+    let shape = Shape { items: 5 + 5 * 59, words: None, long: 0, voters: 59, extraction: false };
+    let laid = crowded(&mut Random::new(seed), shape).plan.lay(sha256);
+    let (board, verdicts) = (bytes(&laid.words), bytes(&laid.verdicts));
+    let printed = program(&board, &verdicts);
+    if !printed.starts_with("accepted 300 300 59 ") || printed.lines().count() != 1 + 59 {
+        fail(&format!("59 counted ballots, seed {seed}: made sound, the reference prints {printed:?}"));
+    }
+    (board, verdicts)
+}
+
+/// Runs the auditing program on made boards, and on files of odd sizes.
+fn programs(options: &Options, path: &Path) {
+    let path = fs::canonicalize(path).unwrap_or_else(|e| fail(&format!("{}: {e}", path.display())));
+    let folder = std::env::temp_dir().join(format!("tirfolma-check-{}", std::process::id()));
+    let mut auditor = Auditor { path, folder, runs: 0 };
+    auditor.hold("no files", None, None);
+    let makers = Makers::default();
+    for seed in 0..400 {
+        let group = GROUPS[seed as usize % 5];
+        auditor.hold_odd(&case(&makers, group, options.seed + seed), seed);
+    }
     for seed in 0..4 {
-        let shape = Shape { items: 5 + 5 * 59, words: None, long: 0, voters: 59, extraction: false };
-        let laid = crowded(&mut Random::new(seed), shape).plan.lay(sha256);
-        let (board, verdicts) = (bytes(&laid.words), bytes(&laid.verdicts));
-        let printed = program(&board, &verdicts);
-        if !printed.starts_with("accepted 300 300 59 ") || printed.lines().count() != 1 + 59 {
-            fail(&format!("59 counted ballots, seed {seed}: made sound, the reference prints {printed:?}"));
-        }
-        run("59 counted ballots", Some(&board), Some(&verdicts));
+        let (board, verdicts) = most_ballots(seed);
+        auditor.hold("59 counted ballots", Some(&board), Some(&verdicts));
     }
     // The largest board that the program takes.
     for seed in 0..4 {
         let case = case(&makers, Group::Long, 4 * seed + 3);
-        run(&case.name, Some(&bytes(&case.words)), Some(&bytes(&case.verdicts)));
+        auditor.hold(&case.name, Some(&bytes(&case.words)), Some(&bytes(&case.verdicts)));
     }
-    let _ = fs::remove_dir_all(&folder);
-    println!("program    {count} pairs of files print what the reference does");
+    let _ = fs::remove_dir_all(&auditor.folder);
+    println!("program    {} pairs of files print what the reference does", auditor.runs);
 }
