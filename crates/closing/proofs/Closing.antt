@@ -26,8 +26,6 @@ use Rattle.index.specs.declared.Known.{Known}
 use Rattle.index.proofs.Reading.{known-item}
 use Rattle.state.specs.Stands.{Stands}
 use Rattle.state.specs.declared.State.{State}
-use Rattle.tally.specs.Rows.{HoldsRows}
-use Rattle.tally.specs.Tallied.{Tallied}
 
 -- ---- 18
 
@@ -87,10 +85,6 @@ module _ (board verdicts : List ℕ) (s : State) where
   pub close-good : closingOk board verdicts h (s .place) ≡ true → closing base board verdicts h (s .place) ≡ accepted h
   unfolding closing if_then_else_
   close-good q = rw q
-
-pub holds-rows : {board ballots : List ℕ} {s : State} → Stands board s → Tallied board ballots (s .items)
-    → HoldsRows ballots (s .ballots) (counted (before board (s .items)))
-holds-rows stands tallied = record { rows = tallied .rows; number = stands .ballots }
 
 pub accepted-report : {board : List ℕ} {s : State} → Stands board s → (weight : ℕ) (end : List ℕ)
     → weight ≡ totalWeight (counted (before board (s .items))) → end ≡ endAddress base (before board (s .items))

@@ -147,9 +147,6 @@ module _ {board index : List ℕ} {n : ℕ} {c : Known} (p : Passing board index
 
 module _ {board index ballots : List ℕ} {s : State} {c : Known} (p : Passing board index (s .items) c) (stands : Stands board s)
     (t : Tallied board ballots (s .items)) where
-  pub holds : HoldsRows ballots (s .ballots) (counted (before board (s .items)))
-  holds = record { rows = t .rows; number = stands .ballots }
-
   pub after-same : (c .item .head .code ≡ 20 → ⊥)
       → Tallied board ballots (s .items + 1) × (s .ballots ≡ length (counted (before board (s .items + 1))))
   after-same q = (record { rows = rw (counted-same p q) (t .rows); room = t .room }, rw (counted-same p q) (stands .ballots))

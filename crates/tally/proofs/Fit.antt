@@ -1,4 +1,4 @@
--- The rows of the counted ballots fit the ballot table, since there are few of them. Paper: request (viii). Assumes nothing.
+-- The ballot table holds the rows of the counted ballots, and they fit, since there are few of them. Paper: request (viii). Assumes nothing.
 use mathlib.Core.List.{List}
 use Prim.Native.Nat.{ℕ, _*_, _≤_}
 use native.Mathlib.Omega.{arith}
@@ -11,9 +11,14 @@ use Rattle.format.specs.Base.{base}
 use Rattle.index.specs.Kept.{before, Kept}
 use Rattle.state.specs.declared.State.{State}
 use Rattle.state.specs.Stands.{Stands}
+use Rattle.tally.specs.Rows.{HoldsRows}
 use Rattle.tally.specs.Tallied.{Tallied}
 
--- of the first n items, which pass
+pub holds-rows : {board ballots : List ℕ} {s : State} → Stands board s → Tallied board ballots (s .items)
+    → HoldsRows ballots (s .ballots) (counted (before board (s .items)))
+holds-rows stands t = record { rows = t .rows; number = stands .ballots }
+
+-- those of the first n items, which pass
 counted-fit : {board index : List ℕ} {n : ℕ} → Kept board index n → length (counted (before board n)) ≤ ballotLimit
 counted-fit {board} {n = n} kept = few-ballots (kept .passed) (omega (arith, length-history base board n, kept .few))
 

@@ -35,9 +35,9 @@ use Rattle.index.proofs.Reading.{known-item, known-within}
 use Rattle.lookup.specs.Search.{mainFrom, mainEntry}
 use Rattle.state.specs.declared.State.{State}
 use Rattle.state.specs.Stands.{Stands}
-use Rattle.tally.specs.Rows.{HoldsRows}
 use Rattle.tally.specs.Tallied.{Tallied}
 use Rattle.tally.proofs.Table.{none, row-of}
+use Rattle.tally.proofs.Fit.{holds-rows}
 
 -- ---- main numbers lead to main items
 
@@ -155,9 +155,7 @@ module _ {board index ballots : List ℕ} {s : State} (kept : Kept board index (
 
     number-is : getD ballots (ballotRow * k) 0 ≡ vote .ballot
     unfolding vote ballotRows
-    number-is =
-        let held : HoldsRows ballots (s .ballots) (counted (before board (s .items))) = record { rows = t .rows; number = stands .ballots } in
-        rw add-zero at (row-of ballots (s .ballots) (counted (before board (s .items))) held k 0 more (lit< tt))
+    number-is = rw add-zero at (row-of ballots (s .ballots) (counted (before board (s .items))) (holds-rows stands t) k 0 more (lit< tt))
 
     module _ (item : ℕ) (found : item ≡ mainEntry (before board (s .items)) (getD ballots (ballotRow * k) 0)) where
       pub item-in : (1 ≤ item) × (item ≤ s .items)

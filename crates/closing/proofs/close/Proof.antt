@@ -5,8 +5,8 @@ use mathlib.Core.Path.{sym, ap, _∙_}
 use Rattle.model.specs.Report.{reportOf}
 use Rattle.format.specs.Base.{base}
 use Rattle.state.proofs.Step.{mains-few}
-use Rattle.tally.proofs.Fit.{rows-few, rows-fit}
-use Rattle.closing.proofs.Closing.{close-bad, close-good, holds-rows, accepted-report}
+use Rattle.tally.proofs.Fit.{holds-rows, rows-few, rows-fit}
+use Rattle.closing.proofs.Closing.{close-bad, close-good, accepted-report}
 use Rattle.closing.proofs.close.Statement.{statement}
 use Rattle.closing.proofs.close.Tie as tie
 

@@ -4,8 +4,8 @@ use Prim.Native.Nat.{_+_, _*_, _<_, _≤_}
 use lib.ListN.{length}
 use Rattle.model.specs.Audit.{ballotLimit, ballotRow}
 use Rattle.index.proofs.Reading.{known-within}
-use Rattle.tally.proofs.Fit.{rows-fit}
-use Rattle.tally.proofs.Casts.{session-in, session-words, ballot-in, voter-is, weight-is, ballot-is, holds, after-same, row-fits, after-cast}
+use Rattle.tally.proofs.Fit.{holds-rows, rows-fit}
+use Rattle.tally.proofs.Casts.{session-in, session-words, ballot-in, voter-is, weight-is, ballot-is, after-same, row-fits, after-cast}
 use native.Mathlib.Omega.{arith}
 use borrow.Author.Needs.{needs}
 use Rattle.tally.proofs.after.Statement.{statement}
@@ -64,7 +64,7 @@ fits c =
     let q = cast (read .before) in
     let w = c .without-voter in
     row-fits (p .0) (p .1) (p .2) q _ (w .result) (voter-is (p .0) q (read .entry .result) (read .entry .ensures)) (w .last .0) (w .kept .0)
-    (w .ensures _ (holds (p .0) (p .1) (p .2)))
+    (w .ensures _ (holds-rows (p .1) (p .2)))
 
 put-row-requires : tie.Need-put-row-requires
 put-row-requires c κs = fits (c .before .before .before) .1
@@ -84,7 +84,7 @@ returns-2 c =
     let w = c .before .before .before .before .before .before .without-voter in
     let number = c .before .before .before .before .before .before .before .before .main-number in
     after-cast (p .0) (p .1) (p .2) q _ (w .result) (voter-is (p .0) q (e .result) (e .ensures)) (w .last .0) (w .kept .0)
-    (w .ensures _ (holds (p .0) (p .1) (p .2))) _ _ (c .before .before .put-row .last .0)
+    (w .ensures _ (holds-rows (p .1) (p .2))) _ _ (c .before .before .put-row .last .0)
     (number .ensures ∙ ballot-is (p .0) q) (weight-is (p .0) q (e .result) (e .ensures)) (c .before .before .put-row .ensures)
 
 pub after-spec : {M : Type 1} → statement M
