@@ -14,8 +14,8 @@ use Rattle.model.specs.Words.{between}
 use Rattle.model.specs.Codes.{genesisType, thresholdType}
 use Rattle.model.specs.Format.{Format}
 use Rattle.model.specs.Item.{code}
-use Rattle.model.specs.History.{History, Entry, absent, entry, itemNo, typed, parentNumber}
-use Rattle.model.specs.Only.{childOf, onBoardOk, underParentOk, underBallotOk}
+use Rattle.model.specs.History.{History, Entry, absent, entry, itemNo, typed, parentNumber, childOf}
+use Rattle.model.specs.Only.{onBoardOk, underParentOk, underBallotOk}
 use Rattle.model.specs.Sound.{Meets, Passed}
 use Rattle.model.proofs.Tests.{eq→eqb, or-left, or-right, and-iff, implies-iff, not-iff, facts}
 use Rattle.model.proofs.Rules.{only-rules}
@@ -24,13 +24,13 @@ use Rattle.model.proofs.Beginnings.{made-at}
 use Rattle.model.proofs.Ancestry.{parent-of}
 
 -- an item among the first m that passes a test
-any-first : (q : Entry → Bool) (h : History) (j m : ℕ) → j < length h → j < m → T (q (getD h j absent)) → T (any q (take m h))
+pub any-before : (q : Entry → Bool) (h : History) (j m : ℕ) → j < length h → j < m → T (q (getD h j absent)) → T (any q (take m h))
 unfolding any
-any-first q [] j m l n t = absurd (not-suc-le-zero l)
-any-first q (e ∷ es) j zero l n t = absurd (not-suc-le-zero n)
-any-first q (e ∷ es) zero (suc m) l n t = or-left (q e) (any q (take m es)) t
-any-first q (e ∷ es) (suc j) (suc m) l n t =
-    or-right (q e) (any q (take m es)) (any-first q es j m (le-of-suc-le-suc l) (le-of-suc-le-suc n) t)
+any-before q [] j m l n t = absurd (not-suc-le-zero l)
+any-before q (e ∷ es) j zero l n t = absurd (not-suc-le-zero n)
+any-before q (e ∷ es) zero (suc m) l n t = or-left (q e) (any q (take m es)) t
+any-before q (e ∷ es) (suc j) (suc m) l n t =
+    or-right (q e) (any q (take m es)) (any-before q es j m (le-of-suc-le-suc l) (le-of-suc-le-suc n) t)
 
 module _ {f : Format} {ws vs : List ℕ} {h : History} (p : Passed f ws vs h) where
   -- entries that pass `kind` have none `beside` them, if none was there before
@@ -44,7 +44,7 @@ module _ {f : Format} {ws vs : List ℕ} {h : History} (p : Passed f ws vs h) wh
     not-earlier (suc j) (suc k) one all l s t =
         let c = made-at p k all in
         alone (take k h) (c .verdict) (entry h (suc k)) (c .meets) (parent-of c) s
-        (any-first (beside (entry h (suc k))) h j k (omega arith) (le-of-suc-le-suc l) t)
+        (any-before (beside (entry h (suc k))) h j k (omega arith) (le-of-suc-le-suc l) t)
 
     once : (j k : ℕ) → T (kind (entry h j)) → T (kind (entry h k)) → T (beside (entry h j) (entry h k)) → T (beside (entry h k) (entry h j)) → j ≡ k
     once j k a b s t =

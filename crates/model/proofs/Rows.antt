@@ -9,7 +9,7 @@ use mathlib.Core.Logic.{by-cases}
 use mathlib.Core.Bool.{Bool, true, false}
 use mathlib.Core.List.{List, [], _∷_, map}
 use lib.ListN.{length, getD, drop, length-drop, List·getD-map}
-use lib.Dec.{T, eqb}
+use lib.Dec.{T, eqb, lit<}
 use borrow.Author.Tests.{eq-eqb, eqb-true}
 use Rattle.model.specs.Lists.{part, any, keep, latest, has}
 use Rattle.model.specs.Codes.{castType}
@@ -19,13 +19,14 @@ use Rattle.model.specs.Types.{inSession}
 use Rattle.model.specs.History.{History, Entry, absent, entry, itemNo, typed, main, mainItem, mainItems, mainNumber}
 use Rattle.model.specs.Counted.{Vote, voteOf, votesIn, sameVoter, counted, voters, LastCast}
 use Rattle.model.specs.Audit.{indexRow}
-use Rattle.model.specs.Report.{indexRows, indexRowOf}
+use Rattle.model.specs.Report.{placeColumn, parentColumn, sessionColumn, mainsColumn, closerColumn, indexRowOf, indexRows, SaysOf}
 use Rattle.model.specs.Sound.{Passed}
 use Rattle.model.proofs.Tests.{by-test, passes, or-left, or-right}
 use Rattle.model.proofs.Lists.{Every, any-of-map, turns, map-keep}
 use Rattle.model.proofs.Numbers.{keep-entry}
 use Rattle.model.proofs.Votes.{votes-cast, votes-other, voters-latest}
 use Rattle.model.proofs.Ancestry.{numbered}
+use Rattle.model.proofs.Tables.{getD-indexRows}
 
 -- ---- main item n
 
@@ -107,19 +108,15 @@ module _ (h : History) where
 
 -- ---- index rows
 
-row-from : (h : History) (j : ℕ) (es : List Entry) (i : ℕ) → i < length es
-    → part (indexRow * i) indexRow (indexRows h j es) ≡ indexRowOf h (j + i) (getD es i absent)
-unfolding indexRows indexRowOf part
-row-from h j [] i l = absurd (omega arith)
-row-from h j (e ∷ es) zero l = let same : j + 0 ≡ j = omega arith in rw same
-row-from h j (e ∷ es) (suc i) l =
-    let place : indexRow * suc i ≡ suc (suc (suc (suc (indexRow * i)))) = omega arith in
-    let before : j + suc i ≡ suc j + i = omega arith in
-    rw (place, before) (row-from h (suc j) es i (omega arith))
-
-pub index-row : (h : History) (k : ℕ) → 1 ≤ k → k ≤ length h → part (indexRow * (k - 1)) indexRow (indexRows h 0 h) ≡ indexRowOf h (k - 1) (entry h k)
-unfolding entry
+pub index-row : (h : History) (k : ℕ) → 1 ≤ k → k ≤ length h → SaysOf (indexRows h 0 h) h k
+unfolding entry indexRowOf
 index-row h zero one all = absurd (omega arith)
 index-row h (suc k) one all =
     let before : suc k - 1 ≡ k = omega arith in
-    rw before (rw zero-add at (row-from h 0 h k all))
+    record {
+      place = rw before (getD-indexRows h k placeColumn all (lit< tt));
+      parent = rw before (getD-indexRows h k parentColumn all (lit< tt));
+      session = rw before (getD-indexRows h k sessionColumn all (lit< tt));
+      mains = rw before (getD-indexRows h k mainsColumn all (lit< tt));
+      closer = rw before (getD-indexRows h k closerColumn all (lit< tt));
+    }

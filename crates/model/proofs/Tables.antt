@@ -3,16 +3,16 @@ use Prim.Native.Nat.{ℕ, zero, suc, _+_, _-_, _*_, _≤_, _<_}
 use native.Mathlib.Nat.{not-suc-le-zero, add-zero, zero-add, mul-suc, sub-zero, zero-sub, suc-sub-suc, le-of-suc-le-suc}
 use native.Mathlib.Omega.{arith}
 use mathlib.Core.Path.{_≡_, refl, sym, ap, _∙_}
+use mathlib.Core.Logic.{_≢_}
 use mathlib.Core.List.{List, [], _∷_, _++_, append-assoc}
 use lib.ListN.{length, getD, drop, replicate, length-append, length-replicate, List·getD-append}
 use lib.Seq.{sets, sets-eq, getD-append-add, drop-append-add, take-append-seam}
-use lib.Dec.{eqb}
-use Rattle.model.specs.Lists.{if_then_else_, count}
-use Rattle.model.specs.History.{History, Entry, absent, main, mainNumber}
+use borrow.Author.Tests.{ne-eqb}
+use Rattle.model.specs.Lists.{if_then_else_}
+use Rattle.model.specs.History.{History, Entry, absent}
 use Rattle.model.specs.Counted.{Vote}
 use Rattle.model.specs.Audit.{indexRow, ballotRow}
-use Rattle.model.specs.Report.{indexRows, ballotRows, filled, noSession}
-use Rattle.model.proofs.Growth.{rows-grow}
+use Rattle.model.specs.Report.{noNumber, numberWord, indexRowOf, indexRows, ballotRows, filled}
 
 -- place c of row k + 1 is place c of row k behind the first row
 row-later : (w : ℕ) (row rest : List ℕ) (k c : ℕ) → length row ≡ w → getD (row ++ rest) (w * suc k + c) 0 ≡ getD rest (w * k + c) 0
@@ -22,37 +22,41 @@ row-later w row rest k c n =
 
 -- ---- the index table
 
--- the row of an entry with n main items before it
-abbrev pub rowOf : ℕ → Entry → List ℕ
-rowOf n e = e .place ∷ e .parent ∷ (if eqb (e .session) 0 then noSession else e .session) ∷ n ∷ []
-
 pub length-indexRows : (h : History) (k : ℕ) (es : List Entry) → length (indexRows h k es) ≡ indexRow * length es
-unfolding indexRows
+unfolding indexRows indexRowOf
 length-indexRows h k [] = refl
 length-indexRows h k (e ∷ es) = omega (arith, length-indexRows h (suc k) es)
 
-pub indexRows-snoc : (h : History) (e : Entry)
-    → indexRows (h ++ (e ∷ [])) 0 (h ++ (e ∷ [])) ≡ indexRows h 0 h ++ rowOf (count main h) e
-unfolding indexRows
-indexRows-snoc h e = rw (rows-grow h (e ∷ []), take-append-seam h (e ∷ []))
-
 column : (h : History) (m : ℕ) (es : List Entry) (k c : ℕ) → k < length es → c < indexRow
-    → getD (indexRows h m es) (indexRow * k + c) 0 ≡ getD (rowOf (mainNumber h (m + k)) (getD es k absent)) c 0
-unfolding indexRows
+    → getD (indexRows h m es) (indexRow * k + c) 0 ≡ getD (indexRowOf h (m + k) (getD es k absent)) c 0
+unfolding indexRows indexRowOf
 column h m [] k c l i = absurd (not-suc-le-zero l)
 column h m (e ∷ es) zero c l i =
-    rw zero-add (List·getD-append (rowOf (mainNumber h m) e) (indexRows h (suc m) es) 0 c i)
-    ∙ ap (λ (n : ℕ). getD (rowOf (mainNumber h n) e) c 0) (sym (add-zero m))
+    rw zero-add (List·getD-append (indexRowOf h m e) (indexRows h (suc m) es) 0 c i)
+    ∙ ap (λ (n : ℕ). getD (indexRowOf h n e) c 0) (sym (add-zero m))
 column h m (e ∷ es) (suc k) c l i =
     let next : suc m + k ≡ m + suc k = omega arith in
-    row-later indexRow (rowOf (mainNumber h m) e) (indexRows h (suc m) es) k c refl
+    row-later indexRow (indexRowOf h m e) (indexRows h (suc m) es) k c refl
     ∙ column h (suc m) es k c (le-of-suc-le-suc l) i
-    ∙ ap (λ (n : ℕ). getD (rowOf (mainNumber h n) (getD es k absent)) c 0) next
+    ∙ ap (λ (n : ℕ). getD (indexRowOf h n (getD es k absent)) c 0) next
 
+-- column c of the row of item k + 1
 pub getD-indexRows : (h : History) (k c : ℕ) → k < length h → c < indexRow
-    → getD (indexRows h 0 h) (indexRow * k + c) 0 ≡ getD (rowOf (mainNumber h k) (getD h k absent)) c 0
+    → getD (indexRows h 0 h) (indexRow * k + c) 0 ≡ getD (indexRowOf h k (getD h k absent)) c 0
 getD-indexRows h k c l i =
-    column h 0 h k c l i ∙ ap (λ (n : ℕ). getD (rowOf (mainNumber h n) (getD h k absent)) c 0) (zero-add k)
+    column h 0 h k c l i ∙ ap (λ (n : ℕ). getD (indexRowOf h n (getD h k absent)) c 0) (zero-add k)
+
+-- the word of an item number
+pub number-some : (n : ℕ) → 1 ≤ n → numberWord n ≡ n
+unfolding numberWord if_then_else_
+number-some n l = rw (ne-eqb n 0 (λ z. omega arith))
+
+pub number-none : numberWord 0 ≡ noNumber
+unfolding numberWord if_then_else_
+number-none = refl
+
+pub number-used : (n : ℕ) → numberWord n ≢ noNumber → n ≢ 0
+number-used n u z = u (ap numberWord z ∙ number-none)
 
 -- ---- the ballot table
 
