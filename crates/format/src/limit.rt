@@ -21,7 +21,7 @@ impl Limit {
     pub const COUNTED: usize = 408;
 
     // Words of a row of the index table, and of the ballot table.
-    pub const INDEX_ROW: usize = 4;
+    pub const INDEX_ROW: usize = 5;
 
     pub const BALLOT_ROW: usize = 3;
 

@@ -3,80 +3,65 @@ use Prim.Native.Nat.{ℕ, zero, suc, _+_, _-_, _*_, _≤_, _<_}
 use native.Mathlib.Nat.{add-zero}
 use native.Mathlib.Numerals.{towards-suc}
 use native.Mathlib.Omega.{arith}
-use mathlib.Core.Path.{_≡_, refl, sym, ap, _∙_}
+use mathlib.Core.Path.{_≡_, refl, sym, ap, subst, _∙_}
+use mathlib.Core.Bool.{true, false}
 use mathlib.Core.List.{List, [], _∷_, _++_}
-use lib.ListN.{length, getD, set, take, length-take}
-use lib.Dec.{eqb, lit<}
-use lib.Seq.{sets, length-sets, length-take-le, take-all}
+use lib.ListN.{length, set, take, length-set, length-take, length-append}
+use lib.Dec.{T, eqb}
+use lib.Seq.{sets, length-sets, length-take-le, set-append-left, take-all}
 use borrow.Author.Tests.{ne-eqb}
 use Rattle.model.specs.Lists.{if_then_else_, count}
 use Rattle.model.specs.Item as model
-use Rattle.model.specs.Item.{itemLength}
-use Rattle.model.specs.History.{History, Entry, entry, main, mainNumber, parentNumber, sessionNumber, placeOf, history, entryOf}
+use Rattle.model.specs.Item.{itemLength, code}
+use Rattle.model.specs.History.{History, Entry, entry, main, mainNumber, parentNumber, sessionNumber, placeOf, history, entryOf, castOrSpoil, closer}
 use Rattle.model.specs.Audit.{wordLimit, itemLimit, indexRow}
-use Rattle.model.specs.Report.{noSession, indexRows, filled}
+use Rattle.model.specs.Report.{noNumber, numberWord, placeColumn, parentColumn, sessionColumn, closerColumn, rowPlace, rowWord, rowWords, indexRows, filled, SaysOf}
 use Rattle.model.specs.Sound.{Passed, next}
-use Rattle.model.proofs.Tests.{by-test}
+use Rattle.model.proofs.Tests.{by-test, passes}
 use Rattle.model.proofs.Lists.{count-few}
 use Rattle.model.proofs.Parts.{take-part}
 use Rattle.model.proofs.Parsing.{words-at}
-use Rattle.model.proofs.Entries.{orderly, parent-genesis, parent-bound, session-bound}
+use Rattle.model.proofs.Entries.{orderly, parent-some, parent-genesis, parent-bound, session-bound}
+use Rattle.model.proofs.Closers.{closer-bound}
 use Rattle.model.proofs.Unchecked.{length-history}
-use Rattle.model.proofs.Tables.{rowOf, length-indexRows, indexRows-snoc, getD-indexRows, getD-filled, filled-append}
+use Rattle.model.proofs.Tables.{length-indexRows, number-none, filled-append, filled-set}
+use Rattle.model.proofs.Rows.{filled-row}
+use Rattle.model.proofs.Growth.{rows-other, rows-close}
+use Rattle.format.specs.declared.head.Head.{Head}
 use Rattle.format.specs.declared.item.Item.{Item}
 use Rattle.format.specs.Base.{base}
 use Rattle.format.specs.Layout.{itemOf}
+use Rattle.format.proofs.Places.{head-is}
 use Rattle.index.specs.declared.Known.{Known}
-use Rattle.index.specs.Session.{sessionWord, sessionIn}
+use Rattle.index.specs.Rows.{numberIn, closedBy}
 use Rattle.index.specs.Kept.{before, itemAfter, Kept}
 use Rattle.index.specs.Known.{IsKnown, Passing}
 use Rattle.index.proofs.Items.{entry-item, entry-session-bound, item-within}
 
 -- ---- what is read
 
--- a session's word gives its item number back
-pub session-back : (s : ℕ) → s ≤ itemLimit → sessionIn (sessionWord s) ≡ s
-unfolding sessionWord sessionIn if_then_else_
-session-back zero l = refl
-session-back (suc s) l = rw (ne-eqb (suc s) 0 (λ q. omega arith), ne-eqb (suc s) noSession (λ q. omega arith))
+-- a word gives its item number back
+pub number-back : (n : ℕ) → n ≤ itemLimit → numberIn (numberWord n) ≡ n
+unfolding numberWord numberIn if_then_else_
+number-back zero l = refl
+number-back (suc n) l = rw (ne-eqb (suc n) 0 (λ q. omega arith), ne-eqb (suc n) noNumber (λ q. omega arith))
 
 module _ {board index : List ℕ} {n : ℕ} (kept : Kept board index n) where
-  -- column c of the row of item k + 1
-  row-word : (k c : ℕ) → k < n → c < indexRow
-      → getD index (indexRow * k + c) 0 ≡ getD (rowOf (mainNumber (before board n) k) (entry (before board n) (suc k))) c 0
-  unfolding entry
-  row-word k c l i =
-      ap (λ (words : List ℕ). getD words (indexRow * k + c) 0) (kept .rows)
-      ∙ getD-filled (length index) (indexRows (before board n) 0 (before board n)) (indexRow * k + c)
-      ∙ getD-indexRows (before board n) k c (omega (arith, length-history base board n)) i
-
   -- the row of item k
   module _ (k : ℕ) (some : 1 ≤ k) (few : k ≤ n) where
-    abbrev at : ℕ
-    at = indexRow * (k - 1)
-
     abbrev here : Entry
     here = entry (before board n) k
 
-    row-at : (c : ℕ) → c < indexRow → getD index (at + c) 0 ≡ getD (rowOf (mainNumber (before board n) (k - 1)) here) c 0
-    row-at c i =
-        let next : suc (k - 1) ≡ k = omega arith in
-        row-word (k - 1) c (omega arith) i
-        ∙ ap (λ (m : ℕ). getD (rowOf (mainNumber (before board n) (k - 1)) (entry (before board n) m)) c 0) next
+    pub row-says : SaysOf index (before board n) k
+    row-says =
+        subst (λ (words : List ℕ). SaysOf words (before board n) k) (sym (kept .rows))
+        (filled-row (length index) (before board n) k some (omega (arith, length-history base board n)))
 
-    pub row-place : getD index at 0 ≡ here .place
-    row-place = rw add-zero at (row-at 0 (lit< tt))
-
-    pub row-parent : getD index (at + 1) 0 ≡ here .parent
-    row-parent = row-at 1 (lit< tt)
-
-    pub row-session : getD index (at + 2) 0 ≡ sessionWord (here .session)
-    unfolding sessionWord
-    row-session = row-at 2 (lit< tt)
-
-    -- the main items before it
-    pub row-mains : getD index (at + 3) 0 ≡ mainNumber (before board n) (k - 1)
-    row-mains = row-at 3 (lit< tt)
+    -- what `closer` makes of it
+    pub row-closer : numberIn (rowWord index k closerColumn) ≡ closer (before board n) k
+    row-closer =
+        let small : closer (before board n) k ≤ itemLimit = omega (arith, closer-bound (before board n) k, length-history base board n, kept .few) in
+        ap numberIn (row-says .closer) ∙ number-back (closer (before board n) k) small
 
     -- its head stands on the board
     pub place-within : here .place < length board
@@ -84,14 +69,14 @@ module _ {board index : List ℕ} {n : ℕ} (kept : Kept board index n) where
     place-within = omega (arith, item-within kept k some few)
 
     -- what `entry` makes of the row
-    pub known-is : (place parent session : ℕ) (item : Item) → place ≡ getD index at 0 → item ≡ itemOf board place
-        → parent ≡ getD index (at + 1) 0 → session ≡ sessionIn (getD index (at + 2) 0)
+    pub known-is : (place parent session : ℕ) (item : Item) → place ≡ rowWord index k placeColumn → item ≡ itemOf board place
+        → parent ≡ rowWord index k parentColumn → session ≡ numberIn (rowWord index k sessionColumn)
         → IsKnown board here (record { item = item; parent = parent; session = session })
     known-is place parent session item p i q s =
         let small : here .session ≤ itemLimit = omega (arith, entry-session-bound kept k some few, kept .few) in
-        let same : item ≡ itemOf board (here .place) = i ∙ ap (itemOf board) (p ∙ row-place) in
-        let own : session ≡ here .session = s ∙ ap sessionIn row-session ∙ session-back (here .session) small in
-        let up : parent ≡ here .parent = q ∙ row-parent in
+        let same : item ≡ itemOf board (here .place) = i ∙ ap (itemOf board) (p ∙ row-says .place) in
+        let own : session ≡ here .session = s ∙ ap numberIn (row-says .session) ∙ number-back (here .session) small in
+        let up : parent ≡ here .parent = q ∙ row-says .parent in
         record {
           same = λ j. record { item = same j; parent = up j; session = own j };
           item = entry-item board n k some few;
@@ -100,9 +85,23 @@ module _ {board index : List ℕ} {n : ℕ} (kept : Kept board index n) where
 
 -- ---- one row more
 
--- the row of an item with so many main items before it
+-- the row of an item with so many main items before it, that nothing closed yet
 abbrev pub rowWith : ℕ → Known → List ℕ
-rowWith mains c = c .item .place ∷ c .parent ∷ sessionWord (c .session) ∷ mains ∷ []
+rowWith mains c = c .item .place ∷ c .parent ∷ numberWord (c .session) ∷ mains ∷ noNumber ∷ []
+
+-- the two cases of what an item closes
+module _ (c : Known) (n : ℕ) (words : List ℕ) where
+  pub closed-none : castOrSpoil (c .item .head .code) ≡ false → words ≡ closedBy c n words
+  unfolding closedBy if_then_else_
+  closed-none q = rw q
+
+  pub closed-some : castOrSpoil (c .item .head .code) ≡ true → set words (rowPlace (c .parent) closerColumn) n ≡ closedBy c n words
+  unfolding closedBy if_then_else_
+  closed-some q = rw q
+
+pub length-closed : (c : Known) (n : ℕ) (words : List ℕ) → length (closedBy c n words) ≡ length words
+unfolding closedBy if_then_else_
+length-closed c n words = by-test (castOrSpoil (c .item .head .code)) (λ q. rw q (length-set words (rowPlace (c .parent) closerColumn) n)) (λ q. rw q)
 
 -- what is stored fits a word
 pub record Small (c : Known) (m : ℕ) : Type 0 where
@@ -143,39 +142,81 @@ module _ {board index : List ℕ} {n : ℕ} {c : Known} (p : Passing board index
       let passed = rw place at (next _ _ _ _ _ (p .kept .passed) (p .meets)) in
       rw (take-part at _ board, ← words-at base board at (p .within)) passed
 
-  rows-next : (mains : ℕ) → mains ≡ mainNumber h n
-      → sets index (indexRow * n) (rowWith mains c)
-      ≡ filled (length index) (indexRows (before board (suc n)) 0 (before board (suc n)))
-  unfolding history sessionWord entryOf itemOf
-  rows-next mains e =
-      let rows = indexRows h 0 h in
+  abbrev new : Entry
+  new = entryOf h (placeOf base board n) i
+
+  abbrev rows : List ℕ
+  rows = indexRows h 0 h
+
+  -- behind the rows that stand
+  row-put : (mains : ℕ) → mains ≡ mainNumber h n
+      → (sets index (indexRow * n) (rowWith mains c) ≡ filled (length index) (rows ++ rowWords new (count main h) 0))
+      × (length rows + indexRow ≤ length index)
+  unfolding entryOf itemOf
+  row-put mains e =
       let size = length-history base board n in
       let long : length rows ≡ indexRow * n = length-indexRows h 0 h ∙ ap (λ (k : ℕ). indexRow * k) size in
       let all : count main h ≡ mains = sym (e ∙ ap (count main) (take-all n h (omega arith))) in
-      let new = entryOf h (placeOf base board n) i in
-      let row : List ℕ = rowOf (count main h) new in
-      let stored : rowWith mains c ≡ row = rw all (ap (rowWith mains) (p .known)) in
-      let fit : length rows + indexRow ≤ length index = omega (arith, p .more, p .kept .room) in
-      ap (λ (r : List ℕ). sets index (indexRow * n) r) stored
-      ∙ ap (λ (words : List ℕ). sets words (indexRow * n) row) (p .kept .rows)
-      ∙ ap (λ (k : ℕ). sets (filled (length index) rows) k row) (sym long)
-      ∙ sym (filled-append (length index) rows row fit)
-      ∙ ap (filled (length index)) (sym (indexRows-snoc h new))
+      let row : List ℕ = rowWords new (count main h) 0 in
+      let stored : rowWith mains c ≡ row = rw (all, number-none) (ap (rowWith mains) (p .known)) in
+      let fit : length rows + indexRow ≤ length index = omega (arith, p .more, p .kept .room) in (
+        ap (λ (r : List ℕ). sets index (indexRow * n) r) stored
+            ∙ ap (λ (words : List ℕ). sets words (indexRow * n) row) (p .kept .rows)
+            ∙ ap (λ (k : ℕ). sets (filled (length index) rows) k row) (sym long)
+            ∙ sym (filled-append (length index) rows row fit),
+        fit,
+      )
 
-  kept-row : (mains : ℕ) → mains ≡ mainNumber h n → Kept board (sets index (indexRow * n) (rowWith mains c)) (suc n)
+  passing-code : c .item .head .code ≡ code i
+  unfolding entryOf
+  passing-code = ap (λ (k : Known). k .item .head .code) (p .known) ∙ ap (λ (d : Head). d .code) (head-is board (placeOf base board n))
+
+  passing-parent : c .parent ≡ parentNumber h i
+  unfolding entryOf
+  passing-parent = ap (λ (k : Known). k .parent) (p .known)
+
+  -- the ballot that a cast or spoil closes has a row
+  pub closes-row : T (castOrSpoil (c .item .head .code)) → (1 ≤ c .parent) × (c .parent ≤ n)
+  closes-row t =
+      let later : eqb (code i) 1 ≡ false = ne-eqb (code i) 1 (λ q. absurd (rw (passing-code ∙ q) at t)) in
+      rw passing-parent (parent-some (p .meets), omega (arith, parent-bound h i later, length-history base board n))
+
+  rows-next : (mains : ℕ) → mains ≡ mainNumber h n
+      → closedBy c (suc n) (sets index (indexRow * n) (rowWith mains c))
+      ≡ filled (length index) (indexRows (before board (suc n)) 0 (before board (suc n)))
+  unfolding history closedBy if_then_else_
+  rows-next mains e =
+      let (stored, fit) = row-put mains e in
+      let row : List ℕ = rowWords new (count main h) 0 in
+      let at : ℕ = rowPlace (c .parent) closerColumn in
+      by-test (castOrSpoil (c .item .head .code))
+      (λ q. let t : T (castOrSpoil (code i)) = rw (← passing-code) (passes q) in
+      let (some, few) = closes-row (passes q) in
+      let long = length-indexRows h 0 h in
+      let size = length-history base board n in
+      let inside : at < length rows = omega arith in
+      let longer : at < length (rows ++ row) = simp length-append (omega arith) in
+      let same : set rows (rowPlace (parentNumber h i) closerColumn) (suc (length h)) ≡ set rows at (suc n) = rw (passing-parent, size) in
+      rw q (ap (λ (words : List ℕ). set words at (suc n)) stored
+      ∙ sym (filled-set (length index) (rows ++ row) at (suc n) longer)
+      ∙ ap (filled (length index)) (set-append-left rows row at (suc n) inside ∙ sym (ap (_++ row) same) ∙ sym (rows-close (p .kept .passed) (p .meets) (placeOf base board n) t))))
+      (λ q. rw q (stored
+      ∙ ap (filled (length index)) (sym (rows-other (p .kept .passed) (p .meets) (placeOf base board n) (rw (← passing-code, q) tt)))))
+
+  kept-row : (mains : ℕ) → mains ≡ mainNumber h n → Kept board (closedBy c (suc n) (sets index (indexRow * n) (rowWith mains c))) (suc n)
   kept-row mains e = record {
-    rows = rw length-sets (rows-next mains e);
+    rows = rw (length-closed, length-sets) (rows-next mains e);
     verdicts = p .kept .verdicts ++ p .verdict;
     passed = passed-next;
     within = p .within;
     few = p .more;
     words = p .kept .words;
-    room = rw length-sets (p .kept .room);
+    room = rw (length-closed, length-sets) (p .kept .room);
   }
 
-  -- the four stores of `put`
-  pub kept-next : (session mains : ℕ) → session ≡ sessionWord (c .session) → mains ≡ mainNumber h n
-      → Kept board
-      (set (set (set (set index (indexRow * n) (c .item .place)) (indexRow * n + 1) (c .parent)) (indexRow * n + 2) session) (indexRow * n + 3) mains)
-      (n + 1)
-  kept-next session mains s e = rw s (simp towards-suc (kept-row mains e))
+  -- the five stores of `put`, and what it closes
+  pub kept-next : (session mains : ℕ) → session ≡ numberWord (c .session) → mains ≡ mainNumber h n → (words : List ℕ)
+      → let row = indexRow * n in
+      words ≡ closedBy c (n + 1) (set (set (set (set (set index (row + 0) (c .item .place)) (row + 1) (c .parent)) (row + 2) session) (row + 3) mains) (row + 4) noNumber)
+      → Kept board words (n + 1)
+  kept-next session mains s e words q = rw (q, s) (simp (towards-suc, add-zero) (kept-row mains e))

@@ -1,4 +1,4 @@
 -- What the index table holds, and what the code knows of an item.
-pub mod Session
+pub mod Rows
 pub mod Kept
 pub mod Known

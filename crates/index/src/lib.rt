@@ -1,11 +1,16 @@
-// The index table: a row of four words for each item that was passed. It is read by item number, and grows by a row.
+// The index table: a row of five words for each item that was passed. It is read by item number, grows by a row, and a cast or spoil is
+// written into the row of its ballot.
 ghost use mathlib.Core.Path.{_≡_};
-ghost use Prim.Native.Nat.{_+_, _≤_};
-ghost use Rattle.model.specs.Audit.{itemLimit};
-ghost use Rattle.model.specs.History.{entry, mainNumber};
+ghost use Prim.Native.Nat.{_+_, _≤_, _<_};
+ghost use lib.ListN.{length};
+ghost use lib.Dec.{T};
+ghost use Rattle.model.specs.Audit.{itemLimit, indexNeed};
+ghost use Rattle.model.specs.History.{entry, mainNumber, castOrSpoil, closer};
+ghost use Rattle.model.specs.Report.{numberWord};
 ghost use Rattle.index.specs.Kept.{before, Kept};
 ghost use Rattle.index.specs.Known.{IsKnown, Passing};
-ghost use Rattle.index.specs.Session.{sessionIn, sessionWord};
+ghost use Rattle.index.specs.Rows.{numberIn, closedBy};
+use format::head::Head;
 use format::item::Item;
 use format::limit::Limit;
 
@@ -17,30 +22,44 @@ pub struct Known {
     pub session: usize,
 }
 
-impl Known {
-    // The session's word in a row of an item that has none.
-    pub const NO_SESSION: u32 = 4_294_967_295;
+// The columns of a row, which has Limit::INDEX_ROW words: the place of the item's head, its parent, its session, the main items before it,
+// and the cast or spoil under it.
+pub struct Column {}
+
+impl Column {
+    pub const PLACE: usize = 0;
+
+    pub const PARENT: usize = 1;
+
+    pub const SESSION: usize = 2;
+
+    pub const MAINS: usize = 3;
+
+    pub const CLOSER: usize = 4;
+
+    // The word for no item, in the columns of the session and of the closer.
+    pub const NO_NUMBER: u32 = 4_294_967_295;
 }
 
-// The item number of a session, from its word in a row: 0 where there is none.
-fn session_in(word: u32) -> usize
-    ensures { λ r. ⌜ r ≡ sessionIn word ⌝ }
+// An item number from its word in a row: 0 where there is none.
+fn number_in(word: u32) -> usize
+    ensures { λ r. ⌜ r ≡ numberIn word ⌝ }
 {
-    if word == Known::NO_SESSION {
+    if word == Column::NO_NUMBER {
         return 0;
     }
     words::wide(word)
 }
 
-// The word of a session's item number in a row.
-fn session_word(session: usize) -> u32
-    requires { ⌜ session ≤ itemLimit ⌝ }
-    ensures { λ r. ⌜ r ≡ sessionWord session ⌝ }
+// The word of an item number in a row.
+fn number_word(number: usize) -> u32
+    requires { ⌜ number ≤ itemLimit ⌝ }
+    ensures { λ r. ⌜ r ≡ numberWord number ⌝ }
 {
-    if session == 0 {
-        return Known::NO_SESSION;
+    if number == 0 {
+        return Column::NO_NUMBER;
     }
-    session as u32
+    number as u32
 }
 
 // Item number k of the first count.
@@ -50,22 +69,54 @@ pub fn entry(board: &[u32], index: &[u32], count: usize, k: usize) -> Known
     ensures { λ r. ⌜ IsKnown (now (board .entry)) (entry (before (now (board .entry)) count) k) r ⌝ }
 {
     let row = Limit::INDEX_ROW * (k - 1);
-    let item = Item::at(board, words::wide(index[row]));
+    let item = Item::at(board, words::wide(index[row + Column::PLACE]));
     Known {
         item,
-        parent: words::wide(index[row + 1]),
-        session: session_in(index[row + 2]),
+        parent: words::wide(index[row + Column::PARENT]),
+        session: number_in(index[row + Column::SESSION]),
     }
 }
 
-// Writes the row of the item after the first count, which passes: mains is the number of main items before it.
+// The number of the cast or spoil under item number k of the first count: 0 for other items and open ballots.
+pub fn closer(board: &[u32], index: &[u32], count: usize, k: usize) -> usize
+    requires { ⌜ Kept (now board) (now index) count ⌝ }
+    requires { ⌜ (1 ≤ k) × (k ≤ count) ⌝ }
+    ensures { λ r. ⌜ r ≡ closer (before (now (board .entry)) count) k ⌝ }
+{
+    let row = Limit::INDEX_ROW * (k - 1);
+    number_in(index[row + Column::CLOSER])
+}
+
+// Whether items of a type close a ballot: casts and spoils.
+pub fn is_closing(code: u32) -> bool
+    ensures { λ r. ⌜ r ≡ castOrSpoil code ⌝ }
+{
+    Head::CAST <= code && code <= Head::SPOIL
+}
+
+// Writes a cast or spoil, the item after the first count, into the row of its ballot.
+fn close(index: &mut [u32], count: usize, c: Known)
+    requires { ⌜ (count < itemLimit) × (indexNeed ≤ length (now index)) ⌝ }
+    requires { ⌜ (T (castOrSpoil (c .item .head .code)) → (1 ≤ c .parent) × (c .parent ≤ itemLimit)) ⌝ }
+    ensures { λ _. ⌜ now (index .exit) ≡ closedBy c (count + 1) (now (index .entry)) ⌝ }
+{
+    if !is_closing(c.item.head.code) {
+        return;
+    }
+    let row = Limit::INDEX_ROW * (c.parent - 1);
+    index[row + Column::CLOSER] = (count + 1) as u32;
+}
+
+// Writes the row of the item after the first count, which passes, and what it closes: mains is the number of main items before it.
 pub fn put(board: &[u32], index: &mut [u32], count: usize, c: Known, mains: usize)
     requires { ⌜ (Passing (now board) (now index) count c) × (mains ≡ mainNumber (before (now board) count) count) ⌝ }
     ensures { λ _. ⌜ Kept (now (board .entry)) (now (index .exit)) (count + 1) ⌝ }
 {
     let row = Limit::INDEX_ROW * count;
-    index[row] = c.item.place as u32;
-    index[row + 1] = c.parent as u32;
-    index[row + 2] = session_word(c.session);
-    index[row + 3] = mains as u32;
+    index[row + Column::PLACE] = c.item.place as u32;
+    index[row + Column::PARENT] = c.parent as u32;
+    index[row + Column::SESSION] = number_word(c.session);
+    index[row + Column::MAINS] = mains as u32;
+    index[row + Column::CLOSER] = Column::NO_NUMBER;
+    close(index, count, c);
 }

@@ -13,8 +13,7 @@ use lib.Dec.{eqb}
 use borrow.Author.Tests.{eq-eqb, ne-eqb}
 use Rattle.model.specs.Lists.{if_then_else_, any}
 use Rattle.model.specs.Item.{code}
-use Rattle.model.specs.History.{Entry, entry}
-use Rattle.model.specs.Only.{childOf}
+use Rattle.model.specs.History.{Entry, entry, childOf}
 use Rattle.index.specs.Kept.{before, Kept}
 use Rattle.index.proofs.Items.{entry-parent-bound}
 use Rattle.lookup.proofs.Steps.{from, any-goes, any-ends}

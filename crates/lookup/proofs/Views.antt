@@ -9,13 +9,12 @@ use lib.ListN.{getD}
 use lib.Dec.{eqb}
 use borrow.Author.Tests.{eq-eqb, ne-eqb, not-true, not-false}
 use Rattle.model.specs.Lists.{if_then_else_, part}
-use Rattle.model.specs.Words.{mainKind, between, sameWords}
+use Rattle.model.specs.Words.{mainKind, sameWords}
 use Rattle.model.specs.Codes.{sessionType}
 use Rattle.model.specs.Item as model
 use Rattle.model.specs.Item.{itemAt, code}
-use Rattle.model.specs.History.{Entry, entry, main}
+use Rattle.model.specs.History.{Entry, entry, main, childOf}
 use Rattle.model.specs.Phase.{sessionOf}
-use Rattle.model.specs.Only.{childOf}
 use Rattle.format.specs.Base.{base}
 use Rattle.format.specs.Layout.{itemOf}
 use Rattle.index.specs.declared.Known.{Known}
@@ -41,9 +40,9 @@ module _ {board : List ℕ} {e : Entry} {c : Known} (is : IsKnown board e c) whe
   pub told-from : (p : Entry → Bool) {r : Bool} → r ≡ p (entryFrom board c) → r ≡ p e
   told-from p q = q ∙ ap p (from-known is)
 
-  pub told-child : (parent low high : ℕ) {r : Bool} → r ≡ (between low high (c .item .head .code) && eqb (c .parent) parent)
-      → r ≡ childOf parent (between low high) e
-  told-child parent low high q = q ∙ rw (known-code is, known-parent is)
+  pub told-child : (parent type : ℕ) {r : Bool} → r ≡ (eqb (c .item .head .code) type && eqb (c .parent) parent)
+      → r ≡ childOf parent (λ x. eqb x type) e
+  told-child parent type q = q ∙ rw (known-code is, known-parent is)
 
   pub told-left : (left : ℕ) {rest : ℕ} → rest ≡ (if eqb (c .item .head .kind) mainKind then left - 1 else left)
       → rest ≡ (if main e then left - 1 else left)

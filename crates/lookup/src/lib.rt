@@ -7,12 +7,11 @@ ghost use Prim.Native.Nat.{_+_, _-_, _≤_};
 ghost use lib.ListN.{length};
 ghost use lib.Dec.{eqb};
 ghost use Rattle.model.specs.Lists.{if_then_else_, part, any};
-ghost use Rattle.model.specs.Words.{mainKind, between};
+ghost use Rattle.model.specs.Words.{mainKind};
 ghost use Rattle.model.specs.Codes.{sessionType};
 ghost use Rattle.model.specs.Item.{itemAt};
-ghost use Rattle.model.specs.History.{entry, first, last, parentNumber, sessionNumber};
+ghost use Rattle.model.specs.History.{entry, first, last, parentNumber, sessionNumber, childOf};
 ghost use Rattle.model.specs.Phase.{sessionOf};
-ghost use Rattle.model.specs.Only.{childOf};
 ghost use Rattle.format.specs.Base.{base};
 ghost use Rattle.format.specs.Layout.{itemOf};
 ghost use Rattle.index.specs.Kept.{before, Kept};
@@ -151,18 +150,11 @@ pub fn latest_session(
     0
 }
 
-// Whether the item stands under a parent and has a type in a range.
-fn is_child(e: Known, parent: usize, low: u32, high: u32) -> bool
-    ensures { λ r. ⌜ r ≡ (between low high (e .item .head .code) && eqb (e .parent) parent) ⌝ }
+// Whether the item is of a type and stands under a parent.
+fn is_child(e: Known, parent: usize, code: u32) -> bool
+    ensures { λ r. ⌜ r ≡ (eqb (e .item .head .code) code && eqb (e .parent) parent) ⌝ }
 {
-    let code = e.item.head.code;
-    if code < low {
-        return false;
-    }
-    if high < code {
-        return false;
-    }
-    e.parent == parent
+    e.item.head.code == code && e.parent == parent
 }
 
 // The number from which on the children of a parent are sought: no item stands before its parent, and item numbers begin with 1.
@@ -175,22 +167,15 @@ fn first_child(parent: usize) -> usize
     parent
 }
 
-// Whether an item with a type in a range stands under a parent.
-pub fn has_child(
-    board: &[u32],
-    index: &[u32],
-    count: usize,
-    parent: usize,
-    low: u32,
-    high: u32,
-) -> bool
+// Whether an item of a type stands under a parent.
+pub fn has_child(board: &[u32], index: &[u32], count: usize, parent: usize, code: u32) -> bool
     requires { ⌜ Kept (now board) (now index) count ⌝ }
-    ensures { λ r. ⌜ r ≡ any (childOf parent (between low high)) (before (now (board .entry)) count) ⌝ }
+    ensures { λ r. ⌜ r ≡ any (childOf parent (λ c. eqb c code)) (before (now (board .entry)) count) ⌝ }
 {
     let mut child = first_child(parent);
     while child <= count {
         let e = index::entry(board, index, count, child);
-        if is_child(e, parent, low, high) {
+        if is_child(e, parent, code) {
             return true;
         }
         child += 1;

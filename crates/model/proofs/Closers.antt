@@ -1,6 +1,6 @@
 -- What closed a ballot: of a passed history each cast and spoil is what closed its ballot, and one more item closes at most one ballot.
 -- Paper: request (vii). Assumes nothing.
-use Prim.Native.Nat.{ℕ, zero, suc, _≤_, _<_}
+use Prim.Native.Nat.{ℕ, zero, suc, _≤_, _<_, zero-le}
 use native.Mathlib.Nat.{not-suc-le-zero}
 use native.Mathlib.Omega.{arith}
 use mathlib.Core.Path.{_≡_, refl, sym, ap, _∙_}
@@ -11,6 +11,7 @@ use lib.ListN.{length, length-append}
 use lib.Dec.{T, eqb, eqb→eq, eqb-refl}
 use borrow.Author.Tests.{eqb-true, eqb-false, ne-eqb, not-false}
 use Rattle.model.specs.Lists.{if_then_else_, any}
+use Rattle.model.specs.Words.{codeOf}
 use Rattle.model.specs.Codes.{ballotType}
 use Rattle.model.specs.Format.{Format}
 use Rattle.model.specs.Item.{Item, code}
@@ -58,6 +59,17 @@ module _ (h : History) (k : ℕ) where
       let (kind, up) = closes-parts k (entry h (first (closes k) h)) (first-found (closes k) h some) in
       (eqb-true (code (itemNo h k)) ballotType q, rw same kind, rw same up))
       (λ q. absurd (n (closer-other (eqb-false (code (itemNo h k)) ballotType q))))
+
+  pub closer-bound : closer h k ≤ length h
+  closer-bound =
+      by-test (typed ballotType (entry h k))
+      (λ q. rw (closer-ballot (passes q)) (first-bound (closes k) h))
+      (λ q. rw (closer-other (eqb-false (code (itemNo h k)) ballotType q)) zero-le)
+
+-- nothing stands under no item
+pub closer-none : (h : History) → closer h 0 ≡ 0
+unfolding closer entry codeOf if_then_else_
+closer-none h = refl
 
 -- one item closes one ballot
 pub closers-differ : (h : History) (j k : ℕ) → closer h j ≢ 0 → closer h j ≡ closer h k → j ≡ k

@@ -12,14 +12,14 @@ use Rattle.model.specs.Format.{Format}
 use Rattle.model.specs.Item.{code}
 use Rattle.model.specs.History.{History, entry, itemNo, castOrSpoil, closer}
 use Rattle.model.specs.Audit.{Outcome, accepted, audit, itemLimit}
-use Rattle.model.specs.Report.{closerColumn, rowPlace, rowWord, noNumber, numberWord, indexRows, filled, tableAfter, indexAfter, SaysOf}
+use Rattle.model.specs.Report.{closerColumn, rowWord, noNumber, numberWord, tableAfter, indexAfter, SaysOf}
 use Rattle.model.specs.Sound.{Passed}
 use Rattle.model.proofs.Tests.{by-test, facts}
 use Rattle.model.proofs.Numbers.{entry-inside}
 use Rattle.model.proofs.Entries.{fine-at, orderly}
 use Rattle.model.proofs.Closers.{closer-other, closer-closes, closers-differ, closer-of, under-ballot}
-use Rattle.model.proofs.Tables.{getD-filled, number-some, number-none, number-used}
-use Rattle.model.proofs.Rows.{index-row}
+use Rattle.model.proofs.Tables.{number-some, number-none, number-used}
+use Rattle.model.proofs.Rows.{filled-row}
 
 -- each row of a table says of its item what the rules give
 abbrev Says : List ℕ → History → Type 0
@@ -29,17 +29,7 @@ Says table h = (k : ℕ) → 1 ≤ k → k ≤ length h → SaysOf table h k
 pub accepted-says : (f : Format) (ws vs index ballots : List ℕ) (h : History) → audit f ws vs (length index) (length ballots) ≡ accepted h
     → Says (indexAfter (audit f ws vs (length index) (length ballots)) index) h
 unfolding tableAfter
-accepted-says f ws vs index ballots h a k one all =
-    let row = index-row h k one all in
-    let same : (c : ℕ) → rowWord (filled (length index) (indexRows h 0 h)) k c ≡ rowWord (indexRows h 0 h) k c =
-    λ c. getD-filled (length index) (indexRows h 0 h) (rowPlace k c) in
-    rw a (record {
-      place = same _ ∙ row .place;
-      parent = same _ ∙ row .parent;
-      session = same _ ∙ row .session;
-      mains = same _ ∙ row .mains;
-      closer = same _ ∙ row .closer;
-    })
+accepted-says f ws vs index ballots h a k one all = rw a (filled-row (length index) h k one all)
 
 module _ {table : List ℕ} {h : History} (says : Says table h) where
   abbrev fifth : ℕ → ℕ

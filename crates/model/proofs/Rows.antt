@@ -19,14 +19,14 @@ use Rattle.model.specs.Types.{inSession}
 use Rattle.model.specs.History.{History, Entry, absent, entry, itemNo, typed, main, mainItem, mainItems, mainNumber}
 use Rattle.model.specs.Counted.{Vote, voteOf, votesIn, sameVoter, counted, voters, LastCast}
 use Rattle.model.specs.Audit.{indexRow}
-use Rattle.model.specs.Report.{placeColumn, parentColumn, sessionColumn, mainsColumn, closerColumn, indexRowOf, indexRows, SaysOf}
+use Rattle.model.specs.Report.{placeColumn, parentColumn, sessionColumn, mainsColumn, closerColumn, rowPlace, rowWord, indexRowOf, indexRows, filled, SaysOf}
 use Rattle.model.specs.Sound.{Passed}
 use Rattle.model.proofs.Tests.{by-test, passes, or-left, or-right}
 use Rattle.model.proofs.Lists.{Every, any-of-map, turns, map-keep}
 use Rattle.model.proofs.Numbers.{keep-entry}
 use Rattle.model.proofs.Votes.{votes-cast, votes-other, voters-latest}
 use Rattle.model.proofs.Ancestry.{numbered}
-use Rattle.model.proofs.Tables.{getD-indexRows}
+use Rattle.model.proofs.Tables.{getD-indexRows, getD-filled}
 
 -- ---- main item n
 
@@ -119,4 +119,18 @@ index-row h (suc k) one all =
       session = rw before (getD-indexRows h k sessionColumn all (lit< tt));
       mains = rw before (getD-indexRows h k mainsColumn all (lit< tt));
       closer = rw before (getD-indexRows h k closerColumn all (lit< tt));
+    }
+
+-- so does a table that is filled with the rows
+pub filled-row : (n : ℕ) (h : History) (k : ℕ) → 1 ≤ k → k ≤ length h → SaysOf (filled n (indexRows h 0 h)) h k
+filled-row n h k one all =
+    let row = index-row h k one all in
+    let same : (c : ℕ) → rowWord (filled n (indexRows h 0 h)) k c ≡ rowWord (indexRows h 0 h) k c =
+    λ c. getD-filled n (indexRows h 0 h) (rowPlace k c) in
+    record {
+      place = same placeColumn ∙ row .place;
+      parent = same parentColumn ∙ row .parent;
+      session = same sessionColumn ∙ row .session;
+      mains = same mainsColumn ∙ row .mains;
+      closer = same closerColumn ∙ row .closer;
     }

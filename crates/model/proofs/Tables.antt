@@ -5,8 +5,8 @@ use native.Mathlib.Omega.{arith}
 use mathlib.Core.Path.{_≡_, refl, sym, ap, _∙_}
 use mathlib.Core.Logic.{_≢_}
 use mathlib.Core.List.{List, [], _∷_, _++_, append-assoc}
-use lib.ListN.{length, getD, drop, replicate, length-append, length-replicate, List·getD-append}
-use lib.Seq.{sets, sets-eq, getD-append-add, drop-append-add, take-append-seam}
+use lib.ListN.{length, getD, set, drop, replicate, length-append, length-set, length-replicate, List·getD-append}
+use lib.Seq.{sets, sets-eq, set-append-left, getD-append-add, drop-append-add, take-append-seam}
 use borrow.Author.Tests.{ne-eqb}
 use Rattle.model.specs.Lists.{if_then_else_}
 use Rattle.model.specs.History.{History, Entry, absent}
@@ -121,3 +121,8 @@ filled-append n rows row l =
       left,
       append-assoc,
     )
+
+-- another word in a row
+pub filled-set : (n : ℕ) (rows : List ℕ) (i v : ℕ) → i < length rows → filled n (set rows i v) ≡ set (filled n rows) i v
+unfolding filled
+filled-set n rows i v l = simp length-set (sym (set-append-left rows (zeros (n - length rows)) i v l))

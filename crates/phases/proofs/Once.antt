@@ -1,5 +1,5 @@
 -- Check 12 by the tests that the code makes. Assumes nothing.
-use Prim.Native.Nat.{ℕ}
+use Prim.Native.Nat.{ℕ, _≤_}
 use native.Mathlib.Omega.{arith}
 use mathlib.Core.Path.{_≡_, refl, sym, ap, _∙_}
 use mathlib.Core.Logic.{_≢_}
@@ -7,23 +7,24 @@ use mathlib.Core.Bool.{Bool, true, false, not, _||_, Bool·not-not}
 use mathlib.Core.List.{List, [], _∷_}
 use lib.ListN.{length}
 use lib.Dec.{eqb, eqb·suc-zero}
-use borrow.Author.Tests.{ne-eqb, le-leb, eqb-true, eqb-false}
+use borrow.Author.Tests.{ne-eqb}
 use Rattle.model.specs.Lists.{_⇒_, any}
 use Rattle.model.specs.Words.{between}
 use Rattle.model.specs.Codes.{genesisType, thresholdType}
 use Rattle.model.specs.Item as model
 use Rattle.model.specs.Item.{code}
-use Rattle.model.specs.History.{History, Entry, typed}
-use Rattle.model.specs.Only.{childOf, onBoardOk, underParentOk, underBallotOk}
-use Rattle.model.proofs.Tests.{by-test, passes, is-true, facts}
+use Rattle.model.specs.History.{History, typed, childOf, castOrSpoil, closer}
+use Rattle.model.specs.Only.{onBoardOk, underParentOk, underBallotOk}
+use Rattle.model.proofs.Tests.{passes, is-true, facts}
 use Rattle.model.proofs.Entries.{Opens, orderly}
+use Rattle.model.proofs.Closers.{closer-none, any-closer}
 use Rattle.model.proofs.Unchecked.{length-history}
 use Rattle.format.specs.Base.{base}
 use Rattle.index.specs.Kept.{before, itemAfter}
 use Rattle.index.specs.declared.Known.{Known}
 use Rattle.state.specs.declared.State.{State}
 use Rattle.state.specs.Stands.{AtItem}
-use Rattle.state.proofs.At.{at-code, at-parent}
+use Rattle.state.proofs.At.{at-code, at-parent, parent-in-range}
 use Rattle.phases.proofs.Standing.{any-threshold}
 
 -- a history that begins with genesis has one exactly where it has an item
@@ -31,19 +32,6 @@ any-opens : (h : History) → Opens h → any (typed genesisType) h ≡ not (eqb
 unfolding any
 any-opens [] o = refl
 any-opens (e ∷ es) o = rw (is-true (typed genesisType e) o, eqb·suc-zero (length es))
-
-any-ext : (p q : Entry → Bool) → ((e : Entry) → p e ≡ q e) → (es : List Entry) → any p es ≡ any q es
-unfolding any
-any-ext p q same [] = refl
-any-ext p q same (e ∷ es) = rw (same e, any-ext p q same es)
-
--- from c to c there is only c
-only-one : (c n : ℕ) → between c c n ≡ eqb n c
-only-one c n =
-    by-test (eqb n c)
-    (λ q. let e = eqb-true n c q in rw (q, le-leb c n (omega arith), le-leb n c (omega arith)))
-    (λ q. let d = eqb-false n c q in
-    rw q (by-test (between c c n) (λ r. let both = simp facts at (passes r) in absurd (d (omega arith))) (λ r. r)))
 
 module _ {board index : List ℕ} {s : State} {c : Known} (a : AtItem board index s c) where
   abbrev h : History
@@ -84,23 +72,27 @@ module _ {board index : List ℕ} {s : State} {c : Known} (a : AtItem board inde
   unfolding underParentOk _⇒_
   parent-other q = rw (← at-code a, q)
 
-  pub parent-some : single ≡ true → (r : Bool) → r ≡ any (childOf (c .parent) (between (c .item .head .code) (c .item .head .code))) h
+  pub parent-some : single ≡ true → (r : Bool) → r ≡ any (childOf (c .parent) (λ x. eqb x (c .item .head .code))) h
       → not r ≡ underParentOk h i
   unfolding underParentOk _⇒_
-  parent-some q r e =
-      let n = c .item .head .code in
-      let range = childOf (c .parent) (between n n) in
-      let one = childOf (c .parent) (λ x. eqb x n) in
-      let same : any range h ≡ any one h = any-ext range one (λ x. rw (only-one n (code (x .item)))) h in
-      rw (← at-code a, q, ← at-parent a) (ap not (e ∙ same))
+  parent-some q r e = rw (← at-code a, q, ← at-parent a) (ap not e)
 
   -- ---- one of either under a ballot
 
-  pub ballot-other : between 20 21 (c .item .head .code) ≡ false → true ≡ underBallotOk h i
+  pub ballot-other : castOrSpoil (c .item .head .code) ≡ false → true ≡ underBallotOk h i
   unfolding underBallotOk _⇒_
   ballot-other q = rw (← at-code a, q)
 
-  pub ballot-some : between 20 21 (c .item .head .code) ≡ true → (r : Bool) → r ≡ any (childOf (c .parent) (between 20 21)) h
-      → not r ≡ underBallotOk h i
-  unfolding underBallotOk _⇒_
-  ballot-some q r e = rw (← at-code a, q, ← at-parent a) (ap not e)
+  module _ (closing : castOrSpoil (c .item .head .code) ≡ true) where
+    -- by what closed its parent
+    pub ballot-some : (r : ℕ) → r ≡ closer h (c .parent) → eqb r 0 ≡ underBallotOk h i
+    unfolding underBallotOk _⇒_
+    ballot-some r e =
+        rw (← at-code a, closing, ← at-parent a, any-closer (a .kept .passed) (c .parent), e) (sym (Bool·not-not (eqb (closer h (c .parent)) 0)))
+
+    -- none stands under an item that there is not
+    pub ballot-none : c .parent ≡ 0 → true ≡ underBallotOk h i
+    ballot-none q = ballot-some 0 (sym (ap (closer h) q ∙ closer-none h))
+
+    pub ballot-in : c .parent ≢ 0 → (1 ≤ c .parent) × (c .parent ≤ s .items)
+    ballot-in n = (omega arith, parent-in-range a (λ q. let range = simp facts at (passes closing) in omega arith))

@@ -33,18 +33,21 @@ pub fn under_parent_ok(board: &[u32], index: &[u32], s: State, c: Known) -> bool
     if !is_single(code) {
         return true;
     }
-    !lookup::has_child(board, index, s.items, c.parent, code, code)
+    !lookup::has_child(board, index, s.items, c.parent, code)
 }
 
-// "Types 20 and 21: one of either under a ballot."
+// "Types 20 and 21: one of either under a ballot." The ballot's row says what closed it.
 pub fn under_ballot_ok(board: &[u32], index: &[u32], s: State, c: Known) -> bool
     requires { ⌜ AtItem (now board) (now index) s c ⌝ }
     ensures { λ r. ⌜ r ≡ underBallotOk (before (now (board .entry)) (s .items)) (itemAfter (now (board .entry)) (s .items)) ⌝ }
 {
-    if !crate::is_between(Head::CAST, Head::SPOIL, c.item.head.code) {
+    if !index::is_closing(c.item.head.code) {
         return true;
     }
-    !lookup::has_child(board, index, s.items, c.parent, Head::CAST, Head::SPOIL)
+    if c.parent == 0 {
+        return true;
+    }
+    index::closer(board, index, s.items, c.parent) == 0
 }
 
 // Whether a parent may have one item of the type only.

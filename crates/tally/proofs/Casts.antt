@@ -14,7 +14,8 @@ use Rattle.model.specs.Item.{code, isMain, word}
 use Rattle.model.specs.Types.{inSession}
 use Rattle.model.specs.History.{History, Entry, entry, itemNo, absent, main, mainNumber, typed, placeOf, history, entryOf, parentNumber, sessionNumber}
 use Rattle.model.specs.Counted.{Vote, voteOf, counted, without}
-use Rattle.model.specs.Audit.{indexRow, ballotRow, itemLimit, ballotLimit}
+use Rattle.model.specs.Audit.{ballotRow, itemLimit, ballotLimit}
+use Rattle.model.specs.Report.{mainsColumn, rowWord}
 use Rattle.model.specs.Sound.{next}
 use Rattle.model.proofs.Tests.{passes, is-true}
 use Rattle.model.proofs.Table.{main-code}
@@ -28,7 +29,7 @@ use Rattle.index.specs.declared.Known.{Known}
 use Rattle.index.specs.Kept.{before, itemAfter, Kept}
 use Rattle.index.specs.Known.{IsKnown, Passing}
 use Rattle.index.proofs.Counts.{hasWords, entry-words}
-use Rattle.index.proofs.Rows.{row-mains}
+use Rattle.index.proofs.Rows.{row-says}
 use Rattle.index.proofs.Reading.{known-item, known-word}
 use Rattle.state.specs.declared.State.{State}
 use Rattle.state.specs.Stands.{Stands}
@@ -43,22 +44,22 @@ mainNumber-suc : (h : History) (k : ℕ) → k < length h → T (main (getD h k 
 unfolding count
 mainNumber-suc h k l t = rw (take-suc h k absent l, count-append main (take k h) (getD h k absent ∷ []), is-true (main (getD h k absent)) t)
 
--- the last word of row k of the index table: the main items before item k
+-- one more than the main items before item k, by its row of the index table
 pub number-is : {board index : List ℕ} {n : ℕ} → Kept board index n → (k : ℕ) → 1 ≤ k → k ≤ n → T (main (entry (before board n) k))
-    → getD index (indexRow * (k - 1) + 3) 0 + 1 ≡ mainNumber (before board n) k
+    → rowWord index k mainsColumn + 1 ≡ mainNumber (before board n) k
 unfolding entry
 number-is kept zero s l t = absurd (omega arith)
 number-is {board} {index} {n} kept (suc k) s l t =
     let same : suc k - 1 ≡ k = omega arith in
-    let word = row-mains kept (suc k) s l in
+    let word = row-says kept (suc k) s l .mains in
     let more = mainNumber-suc (before board n) k (omega (arith, length-history base board n)) t in
     rw (word, same) (sym more)
 
 pub number-small : {board index : List ℕ} {n : ℕ} → Kept board index n → (k : ℕ) → 1 ≤ k → k ≤ n
-    → getD index (indexRow * (k - 1) + 3) 0 ≤ itemLimit
+    → rowWord index k mainsColumn ≤ itemLimit
 number-small {board} {index} {n} kept k s l =
     let h = before board n in
-    rw (row-mains kept k s l)
+    rw (row-says kept k s l .mains)
     (omega (arith, count-take main h (k - 1), count-few main h, length-history base board n, kept .few))
 
 -- ---- one more item

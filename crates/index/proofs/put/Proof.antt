@@ -1,7 +1,7 @@
--- `put` meets its contract: its four stores are the row of the item that passes. Assumes nothing.
+-- `put` meets its contract: its five stores are the row of the item that passes, and it writes what the item closes. Assumes nothing.
 use native.Mathlib.Omega.{arith}
 use borrow.Author.Needs.{needs}
-use Rattle.index.proofs.Rows.{Small, small, kept-next}
+use Rattle.index.proofs.Rows.{Small, small, closes-row, length-closed, kept-next}
 use lib.ListN.{length-set}
 use Rattle.index.proofs.put.Statement.{statement}
 use Rattle.index.proofs.put.Tie as tie
@@ -15,6 +15,9 @@ mul-row c = search needs
 cast-index : tie.Need-cast-index
 cast-index c = omega (arith, stored (c .before .before .before) .place)
 
+add-index : tie.Need-add-index
+add-index c = search needs
+
 mul-index : tie.Need-mul-index
 mul-index c = search needs
 
@@ -24,8 +27,8 @@ slice-write-index c = search needs
 cast-index-2 : tie.Need-cast-index-2
 cast-index-2 c = omega (arith, stored (c .before .before .before .before) .parent)
 
-add-index : tie.Need-add-index
-add-index c = search needs
+add-index-2 : tie.Need-add-index-2
+add-index-2 c = search needs
 
 mul-index-2 : tie.Need-mul-index-2
 mul-index-2 c = search needs
@@ -33,11 +36,11 @@ mul-index-2 c = search needs
 slice-write-index-2 : tie.Need-slice-write-index-2
 slice-write-index-2 c = simp length-set (omega arith)
 
-session-word-requires : tie.Need-session-word-requires
-session-word-requires c κs = stored (c .before .before .before .before) .session
+number-word-requires : tie.Need-number-word-requires
+number-word-requires c κs = stored (c .before .before .before .before) .session
 
-add-index-2 : tie.Need-add-index-2
-add-index-2 c = search needs
+add-index-3 : tie.Need-add-index-3
+add-index-3 c = search needs
 
 mul-index-3 : tie.Need-mul-index-3
 mul-index-3 c = search needs
@@ -48,8 +51,8 @@ slice-write-index-3 c = simp length-set (omega arith)
 cast-index-3 : tie.Need-cast-index-3
 cast-index-3 c = omega (arith, stored (c .before .before .before .before .before) .mains)
 
-add-index-3 : tie.Need-add-index-3
-add-index-3 c = search needs
+add-index-4 : tie.Need-add-index-4
+add-index-4 c = search needs
 
 mul-index-4 : tie.Need-mul-index-4
 mul-index-4 c = search needs
@@ -57,13 +60,29 @@ mul-index-4 c = search needs
 slice-write-index-4 : tie.Need-slice-write-index-4
 slice-write-index-4 c = simp length-set (omega arith)
 
+add-index-5 : tie.Need-add-index-5
+add-index-5 c = search needs
+
+mul-index-5 : tie.Need-mul-index-5
+mul-index-5 c = search needs
+
+slice-write-index-5 : tie.Need-slice-write-index-5
+slice-write-index-5 c = simp length-set (omega arith)
+
+close-requires : tie.Need-close-requires
+close-requires c κs =
+    let s = c .before .before .before .before .before .before in
+    let p = s .pre .0 in
+    ((p .more, simp length-set (p .kept .room)), λ t. let (some, few) = closes-row p t in (some, omega (arith, p .more)))
+
 same-length : tie.Need-same-length
-same-length c = simp length-set
+same-length c = search (needs, c .before .before .close .ensures, length-closed)
 
 returns : tie.Need-returns
 returns c =
-    let s = c .before .before .before .before .before in
-    kept-next (s .pre .0) _ _ (c .session-word .ensures) (s .pre .1)
+    let at-close = c .before .before in
+    let s = at-close .before .before .before .before .before .before .before in
+    kept-next (s .pre .0) _ _ (at-close .before .before .number-word .ensures) (s .pre .1) _ (at-close .close .ensures)
 
 pub put-spec : {M : Type 1} → statement M
 put-spec =
@@ -71,19 +90,24 @@ put-spec =
     (tie.spec
     mul-row
     cast-index
+    add-index
     mul-index
     slice-write-index
     cast-index-2
-    add-index
+    add-index-2
     mul-index-2
     slice-write-index-2
-    session-word-requires
-    add-index-2
+    number-word-requires
+    add-index-3
     mul-index-3
     slice-write-index-3
     cast-index-3
-    add-index-3
+    add-index-4
     mul-index-4
     slice-write-index-4
+    add-index-5
+    mul-index-5
+    slice-write-index-5
+    close-requires
     same-length
     returns)

@@ -3,9 +3,9 @@
 use borrow.Author.Needs.{needs}
 use Prim.Native.Nat.{_+_, _-_, _≤_}
 use mathlib.Core.Path.{_≡_, sym, _∙_}
+use lib.Dec.{eqb}
 use Rattle.model.specs.Lists.{any}
-use Rattle.model.specs.Words.{between}
-use Rattle.model.specs.Only.{childOf}
+use Rattle.model.specs.History.{childOf}
 use Rattle.index.specs.Kept.{before}
 use Rattle.lookup.proofs.Steps.{from, any-stops, any-goes, any-ends}
 use Rattle.lookup.proofs.Children.{begin-some, begin-all}
@@ -14,12 +14,12 @@ use Rattle.lookup.proofs.has_child.Statement.{statement}
 use Rattle.lookup.proofs.has_child.Tie as tie
 
 abbrev Inv-loop : tie.InvT-loop
-Inv-loop board index count parent low high child₀ child =
+Inv-loop board index count parent code child₀ child =
     (1 ≤ child)
-    × (any (childOf parent (between low high)) (before board count) ≡ any (childOf parent (between low high)) (from board count child))
+    × (any (childOf parent (λ x. eqb x code)) (before board count) ≡ any (childOf parent (λ x. eqb x code)) (from board count child))
 
 abbrev μ-loop : tie.MeasureT-loop
-μ-loop board index count parent low high child₀ child = count + 1 - child
+μ-loop board index count parent code child₀ child = count + 1 - child
 
 first-child-requires : tie.Need-first-child-requires Inv-loop μ-loop
 first-child-requires c κs = search needs
@@ -28,7 +28,7 @@ loop-holds : tie.Need-loop-holds Inv-loop μ-loop
 loop-holds c =
     let s = c .before .before .before in
     let f = c .first-child .ensures in
-    (begin-some (s .args .parent) _ f, begin-all (s .pre) (s .args .parent) (between (s .args .low) (s .args .high)) _ f)
+    (begin-some (s .args .parent) _ f, begin-all (s .pre) (s .args .parent) (λ x. eqb x (s .args .code)) _ f)
 
 entry-requires : tie.Need-entry-requires Inv-loop μ-loop
 entry-requires c κs = search needs
@@ -41,7 +41,7 @@ returns c =
     let l = c .before .before .before .before in
     let v = l .loop .inv in
     let e = c .before .before .entry in
-    sym (v .1 ∙ any-stops _ _ _ (l .loop .child) (v .0) (search needs) _ (told-child (e .ensures) _ _ _ (c .before .is-child .ensures)) (c .if1 .taken))
+    sym (v .1 ∙ any-stops _ _ _ (l .loop .child) (v .0) (search needs) _ (told-child (e .ensures) _ _ (c .before .is-child .ensures)) (c .if1 .taken))
 
 add-child : tie.Need-add-child Inv-loop μ-loop
 add-child c = search needs
@@ -54,7 +54,7 @@ loop-again c =
     let l = c .before .before .before .before in
     let v = l .loop .inv in
     let e = c .before .before .entry in
-    (search needs, v .1 ∙ any-goes _ _ _ (l .loop .child) (v .0) (search needs) _ (told-child (e .ensures) _ _ _ (c .before .is-child .ensures)) (c .if1 .left))
+    (search needs, v .1 ∙ any-goes _ _ _ (l .loop .child) (v .0) (search needs) _ (told-child (e .ensures) _ _ (c .before .is-child .ensures)) (c .if1 .left))
 
 returns-2 : tie.Need-returns-2 Inv-loop μ-loop
 returns-2 c = let l = c .before in sym (l .loop .inv .1 ∙ any-ends _ _ _ (l .loop .child) (search needs))
