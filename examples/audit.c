@@ -38,6 +38,25 @@ static uint32_t *read_words(const char *folder, const char *name, size_t *count)
     return words;
 }
 
+enum { BALLOT = 19, CAST = 20 };
+
+/* The row of item k, and its type, of an accepted board. */
+static const uint32_t *row_of(const uint32_t *index, uint32_t k) { return index + TIRFOLMA_ROW_WORDS * (k - 1); }
+
+static uint32_t type_of(const uint32_t *board, const uint32_t *index, uint32_t k) {
+    return board[row_of(index, k)[TIRFOLMA_ROW_PLACE]] >> 16 & 0xfff;
+}
+
+/* Of a ballot: which item cast or spoiled it. */
+static void print_closer(const uint32_t *board, const uint32_t *index, uint32_t k) {
+    if (type_of(board, index, k) != BALLOT) return;
+    uint32_t closer = row_of(index, k)[TIRFOLMA_ROW_CLOSER];
+    if (closer == UINT32_MAX)
+        printf("ballot %" PRIu32 ": open\n", k);
+    else
+        printf("ballot %" PRIu32 ": %s by item %" PRIu32 "\n", k, type_of(board, index, closer) == CAST ? "cast" : "spoiled", closer);
+}
+
 int main(int argc, char **argv) {
     if (argc != 2) {
         fprintf(stderr, "usage: audit FOLDER\n");
@@ -51,12 +70,12 @@ int main(int argc, char **argv) {
     if (!tirfolma_audit(board, board_words, verdicts, verdict_words, index, TIRFOLMA_INDEX_WORDS, ballots,
                         TIRFOLMA_BALLOT_WORDS, answer, TIRFOLMA_AUDIT_WORDS))
         abort(); /* the answer has its 14 words */
-    free(board);
     free(verdicts);
 
     uint32_t number = answer[TIRFOLMA_NUMBER];
     if (number != 0) {
         printf("refused %" PRIu32 " after %" PRIu32 " items\n", number, answer[TIRFOLMA_ITEMS]);
+        free(board);
         return 1;
     }
     uint64_t weight = (uint64_t)answer[TIRFOLMA_WEIGHT_HIGH] << 32 | answer[TIRFOLMA_WEIGHT_LOW];
@@ -68,5 +87,7 @@ int main(int argc, char **argv) {
     for (uint32_t i = 0; i < answer[TIRFOLMA_BALLOTS]; i++)
         printf("main item %" PRIu32 ": voter %" PRIu32 ", weight %" PRIu32 "\n", ballots[3 * i], ballots[3 * i + 1],
                ballots[3 * i + 2]);
+    for (uint32_t k = 1; k <= answer[TIRFOLMA_ITEMS]; k++) print_closer(board, index, k);
+    free(board);
     return 0;
 }

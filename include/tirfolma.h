@@ -20,10 +20,10 @@ extern "C" {
 
 /* ---- audit */
 
-/* Words of the answer, of an index table for every board, and of a ballot table for every board: three for each counted ballot, and no board
-   has more than 408 of those. */
+/* Words of the answer, of an index table for every board: five for each of 2048 items, and of a ballot table for every board: three for each
+   counted ballot, and no board has more than 408 of those. */
 #define TIRFOLMA_AUDIT_WORDS 14
-#define TIRFOLMA_INDEX_WORDS 8192
+#define TIRFOLMA_INDEX_WORDS (5 * 2048)
 #define TIRFOLMA_BALLOT_WORDS (3 * 408)
 
 /* Where the answer's words stand. */
@@ -37,16 +37,26 @@ enum {
     TIRFOLMA_END = 6          /* eight words: the address of the last main item */
 };
 
+/* Where the words of a row of the index table stand, and how many they are. Row k, from 1 on, is that of item k: it begins at word
+   TIRFOLMA_ROW_WORDS * (k - 1). */
+enum {
+    TIRFOLMA_ROW_PLACE = 0,   /* the place of the item's head, counted from 0 */
+    TIRFOLMA_ROW_PARENT = 1,  /* the item number of its parent; its own for genesis */
+    TIRFOLMA_ROW_SESSION = 2, /* the item number of its session; 4294967295: it has none */
+    TIRFOLMA_ROW_MAINS = 3,   /* the main items before it */
+    TIRFOLMA_ROW_CLOSER = 4,  /* of a ballot, the item number of the cast or spoil under it; 4294967295: an open ballot, or another item */
+    TIRFOLMA_ROW_WORDS = 5
+};
+
 /* Audits a board with its verdict words.
 
    True: the first 14 words of the answer are as above, of a refusal too (words 2 to 13 are then 0), and the words behind them are as they
    were. The tables:
      refusal 2, and 1 for more than 262144 words    every word as it was
      any other refusal                              every word 0
-     accepted, the index table                      for each item: place of its head, parent's item number, session's item number
-                                                    (4294967295: none), main items before it; then zeros
+     accepted, the index table                      for each item a row of five words, as above; then zeros
      accepted, the ballot table                     for each counted ballot: main number of the ballot, voter, weight; then zeros
-   An index table of fewer than 8192 words or a ballot table of fewer than 1224 is refused by 2.
+   An index table of fewer than 10240 words or a ballot table of fewer than 1224 is refused by 2.
 
    False: the answer has fewer than 14 words. No word of any buffer is written.
 

@@ -9,7 +9,7 @@ use mathlib.Core.Bool.{Bool, true, false, not}
 use mathlib.Core.List.{List, [], _∷_, _++_, append-nil, append-assoc}
 use lib.ListN.{length, length-append}
 use lib.Dec.{T, eqb, eqb→eq, eqb-refl}
-use borrow.Author.Tests.{eqb-true, eqb-false, ne-eqb, not-false}
+use borrow.Author.Tests.{eqb-true, eqb-false, eq-eqb, ne-eqb, not-false}
 use Rattle.model.specs.Lists.{if_then_else_, any}
 use Rattle.model.specs.Words.{codeOf}
 use Rattle.model.specs.Codes.{ballotType}
@@ -19,7 +19,7 @@ use Rattle.model.specs.Types.{table}
 use Rattle.model.specs.History.{History, Entry, entry, itemNo, typed, first, parentNumber, entryOf, childOf, castOrSpoil, closer}
 use Rattle.model.specs.Only.{underBallotOk}
 use Rattle.model.specs.Sound.{Meets, Passed}
-use Rattle.model.proofs.Tests.{by-test, passes, is-true, is-false, eq→eqb, and-iff, implies-iff, not-iff}
+use Rattle.model.proofs.Tests.{by-test, passes, is-true, is-false, and-iff, implies-iff, not-iff}
 use Rattle.model.proofs.Rules.{only-rules}
 use Rattle.model.proofs.Numbers.{entry-append, entry-snoc, every-entry, first-found, first-bound, first-within}
 use Rattle.model.proofs.State.{first-snoc, any-first}
@@ -40,10 +40,6 @@ closes-own e t = and-iff (castOrSpoil (code (e .item))) (eqb (e .parent) (e .par
 -- ---- of any history
 
 module _ (h : History) (k : ℕ) where
-  closer-ballot : T (typed ballotType (entry h k)) → closer h k ≡ first (closes k) h
-  unfolding closer if_then_else_
-  closer-ballot t = rw (is-true (typed ballotType (entry h k)) t)
-
   -- "4,294,967,295 for other items"
   pub closer-other : code (itemNo h k) ≢ ballotType → closer h k ≡ 0
   unfolding closer if_then_else_
@@ -52,19 +48,18 @@ module _ (h : History) (k : ℕ) where
   -- what closed an item is a cast or spoil under it, and the item is a ballot
   pub closer-closes : closer h k ≢ 0
       → (code (itemNo h k) ≡ ballotType) × T (castOrSpoil (code (itemNo h (closer h k)))) × (entry h (closer h k) .parent ≡ k)
+  unfolding closer if_then_else_
   closer-closes n =
       by-test (typed ballotType (entry h k))
-      (λ q. let same = closer-ballot (passes q) in
-      let some : 1 ≤ first (closes k) h = omega (arith, same) in
-      let (kind, up) = closes-parts k (entry h (first (closes k) h)) (first-found (closes k) h some) in
-      (eqb-true (code (itemNo h k)) ballotType q, rw same kind, rw same up))
-      (λ q. absurd (n (closer-other (eqb-false (code (itemNo h k)) ballotType q))))
+      (λ q. let c = first (closes k) h in
+      let some : c ≢ 0 = rw q at n in
+      let (kind, up) = closes-parts k (entry h c) (first-found (closes k) h (omega arith)) in
+      rw q (eqb-true (code (itemNo h k)) ballotType q, kind, up))
+      (λ q. absurd (n (rw q)))
 
   pub closer-bound : closer h k ≤ length h
-  closer-bound =
-      by-test (typed ballotType (entry h k))
-      (λ q. rw (closer-ballot (passes q)) (first-bound (closes k) h))
-      (λ q. rw (closer-other (eqb-false (code (itemNo h k)) ballotType q)) zero-le)
+  unfolding closer if_then_else_
+  closer-bound = by-test (typed ballotType (entry h k)) (λ q. rw q (first-bound (closes k) h)) (λ q. rw q zero-le)
 
 -- nothing stands under no item
 pub closer-none : (h : History) → closer h 0 ≡ 0
@@ -88,26 +83,27 @@ module _ {f : Format} {ws vs : List ℕ} {h : History} (b : Passed f ws vs h) wh
 
   -- and is what closed it
   pub closer-of : (c : ℕ) → 1 ≤ c → c ≤ length h → T (castOrSpoil (code (itemNo h c))) → closer h (entry h c .parent) ≡ c
-  unfolding entry
+  unfolding closer entry if_then_else_
   closer-of zero o l t = absurd (not-suc-le-zero o)
   closer-of (suc c) o l t =
       let k = entry h (suc c) .parent in
       let here = closes-own (entry h (suc c)) t in
       let some = first-within (closes k) h (suc c) (any-before (closes k) h c (suc c) l (omega arith) here) .0 in
       let (kind, up) = closes-parts k (entry h (first (closes k) h)) (first-found (closes k) h some) in
-      closer-ballot h k (under-ballot k (suc c) o l here) ∙ one-under-ballot b (first (closes k) h) (suc c) kind t up
+      rw (is-true (typed ballotType (entry h k)) (under-ballot k (suc c) o l here)) (one-under-ballot b (first (closes k) h) (suc c) kind t up)
 
   -- "one of either under a ballot": whether there is one
   pub any-closer : (k : ℕ) → any (closes k) h ≡ not (eqb (closer h k) 0)
+  unfolding closer if_then_else_
   any-closer k =
+      let c = first (closes k) h in
       by-test (typed ballotType (entry h k))
-      (λ q. rw (closer-ballot h k (passes q)) (any-first (closes k) h))
-      (λ q. rw (closer-other h k (eqb-false (code (itemNo h k)) ballotType q), any-first (closes k) h)
-      (by-test (eqb (first (closes k) h) 0) (λ z. rw z)
-      (λ z. let other = eqb-false (first (closes k) h) 0 z in
-      let some : 1 ≤ first (closes k) h = omega arith in
-      let ballot = under-ballot k (first (closes k) h) some (first-bound (closes k) h) (first-found (closes k) h some) in
-      absurd (rw q at ballot))))
+      (λ q. rw q (any-first (closes k) h))
+      (λ q. rw (q, any-first (closes k) h)
+      (by-test (eqb c 0) (λ z. rw z)
+      (λ z. let other = eqb-false c 0 z in
+      let some : 1 ≤ c = omega arith in
+      absurd (rw q at (under-ballot k c some (first-bound (closes k) h) (first-found (closes k) h some))))))
 
 -- ---- one more entry
 
@@ -126,16 +122,17 @@ module _ (h : History) (e : Entry) where
   pub closer-used : (k : ℕ) → k ≤ length h → closer h k ≢ 0 → closer longer k ≡ closer h k
   unfolding closer if_then_else_
   closer-used k l n =
-      let ballot = eq→eqb (code (itemNo h k)) ballotType (closer-closes h k n .0) in
-      let some : first (closes k) h ≢ 0 = rw (closer-ballot h k ballot) at n in
+      let ballot = eq-eqb (code (itemNo h k)) ballotType (closer-closes h k n .0) in
+      let some : first (closes k) h ≢ 0 = rw ballot at n in
       rw (entry-append h (e ∷ []) k l, first-snoc (closes k) h e, ne-eqb (first (closes k) h) 0 some)
 
   -- an open ballot that it closes
   closer-set : (k : ℕ) → k ≤ length h → T (typed ballotType (entry h k)) → closer h k ≡ 0 → closes k e ≡ true → closer longer k ≡ suc (length h)
   unfolding closer if_then_else_
   closer-set k l t n q =
-      let none : first (closes k) h ≡ 0 = rw (closer-ballot h k t) at n in
-      rw (entry-append h (e ∷ []) k l, first-snoc (closes k) h e, q, is-true (typed ballotType (entry h k)) t, none)
+      let ballot = is-true (typed ballotType (entry h k)) t in
+      let none : first (closes k) h ≡ 0 = rw ballot at n in
+      rw (entry-append h (e ∷ []) k l, first-snoc (closes k) h e, q, ballot, none)
 
 -- what closed an item stays
 pub closer-stays : (h t : History) (k : ℕ) → k ≤ length h → closer h k ≢ 0 → closer (h ++ t) k ≡ closer h k
