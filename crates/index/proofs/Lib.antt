@@ -2,4 +2,5 @@
 pub mod Items
 pub mod Counts
 pub mod Rows
+pub mod Putting
 pub mod Reading

@@ -1,6 +1,6 @@
 -- What closed a ballot: of a passed history each cast and spoil is what closed its ballot, and one more item closes at most one ballot.
 -- Paper: request (vii). Assumes nothing.
-use Prim.Native.Nat.{ℕ, zero, suc, _≤_, _<_, zero-le}
+use Prim.Native.Nat.{ℕ, zero, suc, _≤_, zero-le}
 use native.Mathlib.Nat.{not-suc-le-zero}
 use native.Mathlib.Omega.{arith}
 use mathlib.Core.Path.{_≡_, refl, sym, ap, _∙_}
@@ -21,10 +21,10 @@ use Rattle.model.specs.Only.{underBallotOk}
 use Rattle.model.specs.Sound.{Meets, Passed}
 use Rattle.model.proofs.Tests.{by-test, passes, is-true, is-false, and-iff, implies-iff, not-iff}
 use Rattle.model.proofs.Rules.{only-rules}
-use Rattle.model.proofs.Numbers.{entry-append, entry-snoc, every-entry, first-found, first-bound, first-within}
+use Rattle.model.proofs.Numbers.{entry-append, first-found, first-bound, first-within}
 use Rattle.model.proofs.State.{first-snoc, any-first}
 use Rattle.model.proofs.Table.{parentType, parent-type-law}
-use Rattle.model.proofs.Entries.{fine-at, each-fine, orderly, parent-bound, parent-type}
+use Rattle.model.proofs.Entries.{fine-at, orderly, parent-bound, parent-type}
 use Rattle.model.proofs.Once.{any-before, one-under-ballot}
 
 -- a cast or spoil under item k

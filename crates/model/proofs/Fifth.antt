@@ -1,23 +1,23 @@
 -- The fifth word of the rows of an index table that is filled: who closed a ballot. Paper: request (vii). Assumes nothing.
-use Prim.Native.Nat.{ℕ, suc, _≤_}
+use Prim.Native.Nat.{ℕ, _≤_}
 use native.Mathlib.Omega.{arith}
-use mathlib.Core.Path.{_≡_, refl, sym, ap, _∙_}
+use mathlib.Core.Path.{_≡_, sym, ap, _∙_}
 use mathlib.Core.Logic.{_≢_}
 use mathlib.Core.List.{List}
-use lib.ListN.{length, getD}
+use lib.ListN.{length}
 use lib.Dec.{T, eqb}
 use borrow.Author.Tests.{eqb-true, eqb-false}
 use Rattle.model.specs.Codes.{ballotType}
 use Rattle.model.specs.Format.{Format}
 use Rattle.model.specs.Item.{code}
 use Rattle.model.specs.History.{History, entry, itemNo, castOrSpoil, closer}
-use Rattle.model.specs.Audit.{Outcome, accepted, audit, itemLimit}
+use Rattle.model.specs.Audit.{accepted, audit, itemLimit}
 use Rattle.model.specs.Report.{closerColumn, rowWord, noNumber, numberWord, tableAfter, indexAfter, SaysOf}
 use Rattle.model.specs.Sound.{Passed}
 use Rattle.model.proofs.Tests.{by-test, facts}
 use Rattle.model.proofs.Numbers.{entry-inside}
 use Rattle.model.proofs.Entries.{fine-at, orderly}
-use Rattle.model.proofs.Closers.{closer-other, closer-closes, closers-differ, closer-of, under-ballot}
+use Rattle.model.proofs.Closers.{closer-other, closer-closes, closers-differ, closer-of}
 use Rattle.model.proofs.Tables.{number-some, number-none, number-used}
 use Rattle.model.proofs.Rows.{filled-row}
 

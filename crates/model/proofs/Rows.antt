@@ -1,24 +1,22 @@
 -- The rows of both tables: a counted ballot's row is that of the last cast of its voter, each voter with a cast has one, and index row k says
 -- what is known of item k. Paper: "Counted ballots", "Index rows". Assumes nothing.
-use Prim.Native.Nat.{ℕ, zero, suc, _+_, _-_, _*_, _≤_, _<_}
-use native.Mathlib.Nat.{zero-add}
+use Prim.Native.Nat.{ℕ, zero, suc, _-_, _≤_, _<_}
 use native.Mathlib.Omega.{arith}
 use native.Mathlib.Decide.{decLe}
 use mathlib.Core.Path.{_≡_, refl, sym, ap, _∙_}
 use mathlib.Core.Logic.{by-cases}
 use mathlib.Core.Bool.{Bool, true, false}
 use mathlib.Core.List.{List, [], _∷_, map}
-use lib.ListN.{length, getD, drop, length-drop, List·getD-map}
+use lib.ListN.{length, drop, length-drop, List·getD-map}
 use lib.Dec.{T, eqb, lit<}
 use borrow.Author.Tests.{eq-eqb, eqb-true}
-use Rattle.model.specs.Lists.{part, any, keep, latest, has}
+use Rattle.model.specs.Lists.{any, keep, latest, has}
 use Rattle.model.specs.Codes.{castType}
 use Rattle.model.specs.Format.{Format}
 use Rattle.model.specs.Item.{code}
 use Rattle.model.specs.Types.{inSession}
 use Rattle.model.specs.History.{History, Entry, absent, entry, itemNo, typed, main, mainItem, mainItems, mainNumber}
 use Rattle.model.specs.Counted.{Vote, voteOf, votesIn, sameVoter, counted, voters, LastCast}
-use Rattle.model.specs.Audit.{indexRow}
 use Rattle.model.specs.Report.{placeColumn, parentColumn, sessionColumn, mainsColumn, closerColumn, rowPlace, rowWord, indexRowOf, indexRows, filled, SaysOf}
 use Rattle.model.specs.Sound.{Passed}
 use Rattle.model.proofs.Tests.{by-test, passes, or-left, or-right}

@@ -2,12 +2,11 @@
 use Prim.Native.Nat.{_≤_}
 use native.Mathlib.Omega.{arith}
 use mathlib.Core.Path.{sym, _∙_}
-use lib.ListN.{length-set}
 use borrow.Author.Needs.{needs}
 use borrow.Author.Tests.{not-true, not-false}
 use Rattle.model.specs.Audit.{itemLimit}
 use Rattle.model.proofs.Tests.{passes}
-use Rattle.index.proofs.Rows.{closed-none, closed-some}
+use Rattle.index.proofs.Putting.{closed-none, closed-some}
 use Rattle.index.proofs.close.Statement.{statement}
 use Rattle.index.proofs.close.Tie as tie
 

@@ -1,7 +1,7 @@
 -- `put` meets its contract: its five stores are the row of the item that passes, and it writes what the item closes. Assumes nothing.
 use native.Mathlib.Omega.{arith}
 use borrow.Author.Needs.{needs}
-use Rattle.index.proofs.Rows.{Small, small, closes-row, length-closed, kept-next}
+use Rattle.index.proofs.Putting.{Small, small, closes-row, length-closed, kept-next}
 use lib.ListN.{length-set}
 use Rattle.index.proofs.put.Statement.{statement}
 use Rattle.index.proofs.put.Tie as tie
