@@ -66,7 +66,7 @@ fn first_of(made: &Made, code: u32) -> Option<usize> {
 
 /// The item's session's position.
 fn session_of(made: &Made, position: usize) -> usize {
-    made.expected.rows[position][1] as usize - 1
+    made.expected.rows[position].session as usize - 1
 }
 
 fn is_live(made: &Made, session: usize, before: usize) -> bool {
@@ -442,7 +442,7 @@ fn previous_hidden(made: &Made, _: u32, random: &mut Random) -> Change {
 }
 
 fn previous_two_back(made: &Made, _: u32, random: &mut Random) -> Change {
-    let at = pick_where(made, random, |i, s| s.kind == MAIN && made.expected.rows[i][2] >= 2)?;
+    let at = pick_where(made, random, |i, s| s.kind == MAIN && made.expected.rows[i].mains_before >= 2)?;
     let before = last_main(made, last_main(made, at)?)?;
     change_item(made, at, |s| s.previous = Previous::Item(before))
 }
@@ -450,15 +450,15 @@ fn previous_two_back(made: &Made, _: u32, random: &mut Random) -> Change {
 /// A main item that names its parent, which is not the main item before it.
 fn previous_parent(made: &Made, _: u32, random: &mut Random) -> Change {
     let at = pick_where(made, random, |i, s| {
-        s.kind == MAIN && i > 0 && last_main(made, i) != Some(made.expected.rows[i][0] as usize - 1)
+        s.kind == MAIN && i > 0 && last_main(made, i) != Some(made.expected.rows[i].parent as usize - 1)
     })?;
-    let parent = made.expected.rows[at][0] as usize - 1;
+    let parent = made.expected.rows[at].parent as usize - 1;
     change_item(made, at, |s| s.previous = Previous::Item(parent))
 }
 
 /// A hidden item that names an item which is not its parent.
 fn hidden_previous(made: &Made, random: &mut Random, other: impl Fn(usize) -> Option<usize>) -> Change {
-    let parent = |i: usize| made.expected.rows[i][0] as usize - 1;
+    let parent = |i: usize| made.expected.rows[i].parent as usize - 1;
     let at = pick_where(made, random, |i, s| s.kind == HIDDEN && other(i).is_some_and(|o| o != parent(i)))?;
     let named = other(at)?;
     change_item(made, at, |s| s.previous = Previous::Item(named))
@@ -566,9 +566,9 @@ fn first_is(made: &Made, code: u32, random: &mut Random) -> Change {
 /// A hidden item that stands before its parent.
 fn before_its_parent(made: &Made, _: u32, random: &mut Random) -> Change {
     let at = pick_where(made, random, |i, s| {
-        s.kind == HIDDEN && s.code != TRACK && items(made)[made.expected.rows[i][0] as usize - 1].kind == HIDDEN
+        s.kind == HIDDEN && s.code != TRACK && items(made)[made.expected.rows[i].parent as usize - 1].kind == HIDDEN
     })?;
-    let parent = made.expected.rows[at][0] as usize - 1;
+    let parent = made.expected.rows[at].parent as usize - 1;
     let address = made.plan.lay(sha256).addresses[parent];
     let mut spec = items(made)[at].clone();
     spec.parent = Link::Words(address);
@@ -582,7 +582,7 @@ fn backward(made: &Made, code: u32, random: &mut Random) -> Change {
     let bound = if items(made)[at].kind == MAIN {
         items(made)[last_main(made, at)?].time
     } else {
-        items(made)[made.expected.rows[at][0] as usize - 1].time
+        items(made)[made.expected.rows[at].parent as usize - 1].time
     };
     if bound == 0 {
         return None;
@@ -942,7 +942,7 @@ fn voter_of(made: &Made, position: usize) -> u32 {
     items(made)[session_of(made, position)].content[0]
 }
 fn parent_position(made: &Made, position: usize) -> usize {
-    made.expected.rows[position][0] as usize - 1
+    made.expected.rows[position].parent as usize - 1
 }
 /// Of each voter the last of some positions, in order.
 fn last_of_voters(made: &Made, from: Vec<usize>) -> Vec<usize> {

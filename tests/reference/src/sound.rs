@@ -20,11 +20,20 @@ pub struct Shape {
     pub extraction: bool,
 }
 
+/// An item's index row, all but the place of its head, which is known once the words are laid out.
+#[derive(Clone, Copy, Debug)]
+pub struct Row {
+    /// Item numbers, of the parent and of the session.
+    pub parent: u32,
+    pub session: u32,
+    pub mains_before: u32,
+}
+
 /// The audit's answer to a sound board, as known from its making.
 #[derive(Clone, Debug, Default)]
 pub struct Expected {
-    /// Parent and session by item number, and the main items before; one row an item.
-    pub rows: Vec<[u32; 3]>,
+    /// One row an item.
+    pub rows: Vec<Row>,
     pub mains: usize,
     /// Main number of the ballot, voter, weight.
     pub ballots: Vec<[u32; 3]>,
@@ -175,7 +184,7 @@ impl Maker<'_> {
     pub(crate) fn finish(self) -> Made {
         let mut expected = self.expected;
         for &(ballot, voter, weight) in &self.counted {
-            expected.ballots.push([expected.rows[ballot][2] + 1, voter, weight]);
+            expected.ballots.push([expected.rows[ballot].mains_before + 1, voter, weight]);
         }
         Made { plan: Plan::new(self.items), expected }
     }
@@ -246,9 +255,10 @@ impl Maker<'_> {
         let session = match code {
             SESSION => position as u32 + 1,
             GENESIS => NO_SESSION,
-            _ => self.expected.rows[parent][1],
+            _ => self.expected.rows[parent].session,
         };
-        self.expected.rows.push([parent as u32 + 1, session, self.expected.mains as u32]);
+        let mains_before = self.expected.mains as u32;
+        self.expected.rows.push(Row { parent: parent as u32 + 1, session, mains_before });
         if kind == MAIN {
             self.expected.mains += 1;
             self.now = time;
@@ -448,13 +458,13 @@ impl Maker<'_> {
         let live: Vec<u32> = self.sessions.iter().map(|s| s.position as u32 + 1).collect();
         let rows = &self.expected.rows;
         for list in [&mut self.commitments, &mut self.answered, &mut self.undecided] {
-            list.retain(|&i| live.contains(&rows[i][1]));
+            list.retain(|&i| live.contains(&rows[i].session));
         }
     }
 
     /// The session that an item is in.
     fn session_of(&self, position: usize) -> usize {
-        let number = self.expected.rows[position][1] as usize;
+        let number = self.expected.rows[position].session as usize;
         self.sessions.iter().position(|s| s.position + 1 == number).expect("the session is live")
     }
 
@@ -554,7 +564,7 @@ impl Maker<'_> {
                 self.verifiers.push(added);
             }
             2 => {
-                let session = self.expected.rows[parent][1] as usize - 1;
+                let session = self.expected.rows[parent].session as usize - 1;
                 let key = eight(&self.items[session].content, 2);
                 let length = self.length(1, 256);
                 let content = self.random.words(length);

@@ -73,7 +73,7 @@ fn position(made: &Made, fits: impl Fn(usize) -> bool) -> usize {
 /// The position of the last counted ballot.
 fn counted_ballot(made: &Made) -> usize {
     let main = made.expected.ballots.last().expect("a counted ballot")[0];
-    position(made, |i| made.plan.items[i].kind == MAIN && made.expected.rows[i][2] + 1 == main)
+    position(made, |i| made.plan.items[i].kind == MAIN && made.expected.rows[i].mains_before + 1 == main)
 }
 
 fn write(folder: &Path, name: &str, laid: &Laid) {
