@@ -189,12 +189,27 @@ fn accepted(history: &History) -> Report {
 }
 
 fn write_index(history: &History, index: &mut [u32]) {
-    for (item, row) in history.items.iter().zip(index.chunks_mut(INDEX_ROW)) {
-        row[0] = item.place as u32;
-        row[1] = item.parent as u32;
-        row[2] = item.session.map_or(NO_SESSION, |s| s as u32);
-        row[3] = item.mains_before as u32;
+    for (number, row) in (1..=history.items()).zip(index.chunks_mut(INDEX_ROW)) {
+        let item = history.item(number);
+        row[column::PLACE] = item.place as u32;
+        row[column::PARENT] = item.parent as u32;
+        row[column::SESSION] = item.session.map_or(NO_SESSION, |s| s as u32);
+        row[column::MAINS_BEFORE] = item.mains_before as u32;
+        row[column::CLOSED_BY] = closed_by(history, number).map_or(NOT_CLOSED, |c| c as u32);
     }
+}
+
+/// The item number of the cast or spoil under a ballot: the one that has it as its parent. None where
+/// the ballot is open, or the item is no ballot.
+fn closed_by(history: &History, number: usize) -> Option<usize> {
+    if history.item(number).code != BALLOT {
+        return None;
+    }
+    // A parent is earlier than what stands under it.
+    (number + 1..=history.items()).find(|&later| {
+        let item = history.item(later);
+        matches!(item.code, CAST | SPOIL) && item.parent == number
+    })
 }
 
 fn write_ballots(history: &History, ballots: &mut [u32]) {

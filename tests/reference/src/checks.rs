@@ -502,7 +502,7 @@ impl Audited {
         }
         let mut rows: Vec<u32> = Vec::new();
         for (row, &place) in expected.rows.iter().zip(places) {
-            rows.extend([place as u32, row.parent, row.session, row.mains_before]);
+            rows.extend([place as u32, row.parent, row.session, row.mains_before, row.closed_by]);
         }
         rows.resize(self.index.len(), 0);
         if self.index != rows {

@@ -2,20 +2,33 @@
 
 pub const MAX_WORDS: usize = 262_144;
 pub const MAX_ITEMS: usize = 2_048;
-pub const INDEX_ROW: usize = 4;
+pub const INDEX_ROW: usize = 5;
 pub const BALLOT_ROW: usize = 3;
+
+/// The columns of an index row.
+pub mod column {
+    pub const PLACE: usize = 0;
+    pub const PARENT: usize = 1;
+    pub const SESSION: usize = 2;
+    pub const MAINS_BEFORE: usize = 3;
+    pub const CLOSED_BY: usize = 4;
+}
+
 /// The most ballots that a board can count. Each has five items of its own: session, two
 /// commitments, ballot, cast. Five of the config stand before the first session: genesis, contest,
 /// threshold, authorizer, round. That leaves (2,048 - 5) / 5.
 pub const MAX_BALLOTS: usize = 408;
 /// The words that the index table, the ballot table and the list of an ancestry need.
-pub const INDEX_NEED: usize = 8_192;
+pub const INDEX_NEED: usize = INDEX_ROW * MAX_ITEMS;
 pub const BALLOTS_NEED: usize = BALLOT_ROW * MAX_BALLOTS;
 pub const LIST_NEED: usize = 2_048;
 /// The session column of an item that has none.
 pub const NO_SESSION: u32 = u32::MAX;
+/// The column of the cast or spoil under a ballot, for an open ballot and for an item that is none.
+pub const NOT_CLOSED: u32 = u32::MAX;
 
 const _: () = assert!(MAX_BALLOTS == (MAX_ITEMS - 5) / 5 && BALLOTS_NEED == 1_224);
+const _: () = assert!(INDEX_NEED == 10_240);
 
 pub const MAIN: u32 = 1;
 pub const HIDDEN: u32 = 2;

@@ -27,6 +27,8 @@ pub struct Row {
     pub parent: u32,
     pub session: u32,
     pub mains_before: u32,
+    /// The item number of the cast or spoil under it.
+    pub closed_by: u32,
 }
 
 /// The audit's answer to a sound board, as known from its making.
@@ -258,7 +260,10 @@ impl Maker<'_> {
             _ => self.expected.rows[parent].session,
         };
         let mains_before = self.expected.mains as u32;
-        self.expected.rows.push(Row { parent: parent as u32 + 1, session, mains_before });
+        self.expected.rows.push(Row { parent: parent as u32 + 1, session, mains_before, closed_by: NOT_CLOSED });
+        if matches!(code, CAST | SPOIL) {
+            self.expected.rows[parent].closed_by = position as u32 + 1;
+        }
         if kind == MAIN {
             self.expected.mains += 1;
             self.now = time;
