@@ -13,6 +13,7 @@ use crate::plan::Plan;
 use crate::random::Random;
 use crate::sha256::sha256;
 use crate::sound::{any_shape, make, Expected, Made, Shape};
+use crate::stand_in::BALLOTS_NEED_BEFORE;
 
 /// What is known of a board from its making.
 #[derive(Clone)]

@@ -4,7 +4,7 @@
 //!
 //! The rules: `sha256`, `format`, `audit`, `compare`, `ancestry`, `program`.
 //! The boards: `random`, `plan`, `sound`, `crowded`, `faults`, `damage`, `collisions`.
-//! The checks: `interface`, `header`, `checks`, `stored`.
+//! The checks: `interface`, `header`, `stand_in`, `checks`, `stored`.
 
 pub mod ancestry;
 pub mod audit;
@@ -22,4 +22,5 @@ pub mod program;
 pub mod random;
 pub mod sha256;
 pub mod sound;
+pub mod stand_in;
 pub mod stored;
