@@ -3,6 +3,7 @@
 
 use crate::ancestry::ancestry;
 use crate::audit::{audit, refused, Report};
+use crate::closed::{broken, check_closed, PROPERTIES};
 use crate::compare::{compare, Board, Tables};
 use crate::crowded::crowded;
 use crate::damage::{damage_plan, damage_words, no_board};
@@ -13,7 +14,7 @@ use crate::plan::Plan;
 use crate::random::Random;
 use crate::sha256::sha256;
 use crate::sound::{any_shape, make, Expected, Made, Shape};
-use crate::stand_in::BALLOTS_NEED_BEFORE;
+use crate::stand_in::{BALLOTS_NEED_BEFORE, INDEX_NEED_BEFORE};
 
 /// What is known of a board from its making.
 #[derive(Clone)]
@@ -275,9 +276,11 @@ fn long_case(name: Name, seed: u64, random: &mut Random) -> Case {
 
 /// The voters of a full board, each counted: with five items each, five before them and an
 /// extraction's three behind, they make 2,048. This and the words of ballot table for their rows
-/// are written out, not taken from `format`, so that a wrong bound there is noticed.
+/// are written out, not taken from `format`, so that a wrong bound there is noticed; so are the words
+/// of index table for a row of each item.
 pub const FULL: usize = 408;
 pub const FULL_TABLE: usize = 1_224;
+pub const FULL_INDEX: usize = 10_240;
 
 /// A board of 2,048 items with 408 counted ballots, or fewer where voters cast again; sound, or
 /// with one thing wrong.
@@ -415,16 +418,20 @@ pub fn check_known(case: &Case) -> Result<u32, String> {
     check_known_with(case, INDEX_NEED + 5, BALLOTS_NEED + 4, &case.known)
 }
 
-/// The same with a ballot table for a full board, and with one word less, which is refused. Gives
-/// whether the counted ballots fill the table.
+/// The same with tables for a full board, and with one word less of either or the index table that was
+/// enough before, which are refused. Gives whether the counted ballots fill the ballot table.
 pub fn check_full(case: &Case) -> Result<bool, String> {
-    check_known_with(case, INDEX_NEED, FULL_TABLE, &case.known)?;
-    check_known_with(case, INDEX_NEED, FULL_TABLE - 1, &Known::Refused(2, 0))?;
+    check_known_with(case, FULL_INDEX, FULL_TABLE, &case.known)?;
+    for (index, ballots) in
+        [(FULL_INDEX, FULL_TABLE - 1), (FULL_INDEX - 1, FULL_TABLE), (INDEX_NEED_BEFORE, FULL_TABLE)]
+    {
+        check_known_with(case, index, ballots, &Known::Refused(2, 0))?;
+    }
     let Known::Sound(expected, ..) = &case.known else { return Ok(false) };
     if expected.ballots.len() < FULL {
         return Ok(false);
     }
-    let (mut index, mut ballots) = (vec![0; INDEX_NEED], vec![0; FULL_TABLE]);
+    let (mut index, mut ballots) = (vec![0; FULL_INDEX], vec![0; FULL_TABLE]);
     let report = audit(&case.words, &case.verdicts, &mut index, &mut ballots);
     // The last word is a weight, which is at least 1; so is a ballot's main number.
     let all_used = ballots.chunks(BALLOT_ROW).all(|row| row[0] != 0 && row[2] != 0);
@@ -445,7 +452,11 @@ fn check_known_with(case: &Case, index_len: usize, ballots_len: usize, known: &K
         Known::Refused(number, items) => audited.check_refused(*number, *items),
         Known::Sound(expected, places, end) => audited.check_sound(expected, places, *end),
     };
-    held.map_err(|message| format!("{}: {message}", case.name))?;
+    let rows = || match audited.report.number {
+        0 => check_closed(&case.words, &audited.index),
+        _ => Ok(()),
+    };
+    held.and_then(|()| rows()).map_err(|message| format!("{}: {message}", case.name))?;
     Ok(audited.report.number)
 }
 
@@ -574,6 +585,11 @@ impl Buffer {
         self.guarded[GUARD..].as_mut_ptr()
     }
 
+    /// The words between the guards, as the implementation left them.
+    fn given(&self) -> &[u32] {
+        &self.guarded[GUARD..GUARD + self.len()]
+    }
+
     fn same(&self, what: &str) -> Result<(), String> {
         let end = GUARD + self.len();
         if self.guarded[..GUARD] != self.before[..GUARD] {
@@ -582,7 +598,7 @@ impl Buffer {
         if self.guarded[end..] != self.before[end..] {
             return Err(format!("a word behind the {what} was written"));
         }
-        let given = &self.guarded[GUARD..end];
+        let given = self.given();
         match given.iter().zip(&self.reference).position(|(a, b)| a != b) {
             None => Ok(()),
             Some(at) => Err(format!(
@@ -621,12 +637,38 @@ fn put(answer: &mut Buffer, words: &[u32]) {
     answer.reference[..words.len()].copy_from_slice(words);
 }
 
-/// Holds an entry's result to the one expected, and its buffers to the reference.
-fn agree(entry: &str, given: bool, expected: bool, buffers: &[(&Buffer, &str)]) -> Result<(), String> {
-    if given != expected {
-        return Err(format!("{entry} gives {given}, not {expected}"));
+/// A call of an entry: what it gave, and its buffers by name.
+struct Call<'a> {
+    entry: String,
+    given: bool,
+    expected: bool,
+    buffers: Vec<(Buffer, &'static str)>,
+    /// By the answer given: the boards that were accepted, each with the place of its index table among
+    /// the buffers.
+    accepted: Vec<(&'a [u32], usize)>,
+}
+
+impl Call<'_> {
+    fn hold(&self) -> Result<(), String> {
+        self.hold_words().and_then(|()| self.hold_closed())
     }
-    buffers.iter().try_for_each(|(buffer, what)| buffer.same(what))
+
+    /// Holds the result to the one expected, and the buffers to the reference.
+    fn hold_words(&self) -> Result<(), String> {
+        if self.given != self.expected {
+            return Err(format!("{} gives {}, not {}", self.entry, self.given, self.expected));
+        }
+        let held = self.buffers.iter().try_for_each(|(buffer, what)| buffer.same(what));
+        held.map_err(|message| format!("{}: {message}", self.entry))
+    }
+
+    /// Holds each index table that was filled to its board, the reference left aside.
+    fn hold_closed(&self) -> Result<(), String> {
+        self.accepted.iter().try_for_each(|&(board, table)| {
+            let (index, what) = &self.buffers[table];
+            check_closed(board, index.given()).map_err(|message| format!("{}: {what}: {message}", self.entry))
+        })
+    }
 }
 
 /// How often an entry gave each answer: by refusal number, or for comparing 20 apart, 21 same,
@@ -639,36 +681,64 @@ pub type Check = fn(&Interface, &Case, &mut Random, &mut Tally) -> Result<(), St
 /// Every entry, with tables of any length.
 pub const ANY_LENGTH: [Check; 3] = [check_audit, check_compare, check_ancestry];
 
-/// Every entry, with ballot tables of just the words they need, of one word less, and of more.
+/// Every entry, with tables of just the words they need, of too few, and of more.
 pub const FULL_LENGTHS: [Check; 3] = [check_audit_full, check_compare_full, check_ancestry_full];
 
-/// A length that is more than a ballot table needs.
-fn longer(random: &mut Random) -> usize {
-    *random.pick(&[BALLOTS_NEED + 1, BALLOTS_NEED + BALLOT_ROW, 2_000, BALLOTS_NEED_BEFORE])
+/// Every entry, its index tables held to the boards alone.
+pub const CLOSED: [Check; 3] = [check_audit_closed, check_compare_closed, check_ancestry_closed];
+
+/// The lengths that an index table and a ballot table need.
+const NEED: [usize; 2] = [INDEX_NEED, BALLOTS_NEED];
+
+/// One of the two is too short: by a word, or as long as was enough for the index table before.
+const TOO_SHORT: [[usize; 2]; 3] =
+    [[INDEX_NEED, BALLOTS_NEED - 1], [INDEX_NEED - 1, BALLOTS_NEED], [INDEX_NEED_BEFORE, BALLOTS_NEED]];
+
+/// Lengths that are more than they need.
+fn longer(random: &mut Random) -> [usize; 2] {
+    let index = *random.pick(&[INDEX_NEED, INDEX_NEED + 1, INDEX_NEED + INDEX_ROW]);
+    [index, *random.pick(&[BALLOTS_NEED + 1, BALLOTS_NEED + BALLOT_ROW, 2_000, BALLOTS_NEED_BEFORE])]
+}
+
+/// Lengths for the two tables of a board: just enough, too short, more.
+fn table_lengths(random: &mut Random) -> Vec<[usize; 2]> {
+    [&[NEED][..], &TOO_SHORT, &[longer(random)]].concat()
 }
 
 fn check_audit(with: &Interface, case: &Case, random: &mut Random, tally: &mut Tally) -> Result<(), String> {
     let (index, ballots) = (buffer_length(INDEX_NEED, random), buffer_length(BALLOTS_NEED, random));
     let answer = answer_length(AUDIT_ANSWER, random);
-    hold_audit(with, case, [index, ballots, answer], random, tally)
+    call_audit(with, case, [index, ballots, answer], random, tally).hold()
 }
 
 fn check_audit_full(with: &Interface, case: &Case, random: &mut Random, tally: &mut Tally) -> Result<(), String> {
-    for ballots in [BALLOTS_NEED, BALLOTS_NEED - 1, longer(random)] {
-        hold_audit(with, case, [INDEX_NEED, ballots, AUDIT_ANSWER], random, tally)?;
+    for [index, ballots] in table_lengths(random) {
+        call_audit(with, case, [index, ballots, AUDIT_ANSWER], random, tally).hold()?;
     }
     Ok(())
 }
 
-/// Holds an audit to the reference. The lengths are of the index table, the ballot table and the
-/// answer.
-fn hold_audit(
+fn check_audit_closed(with: &Interface, case: &Case, random: &mut Random, tally: &mut Tally) -> Result<(), String> {
+    call_audit(with, case, [INDEX_NEED, BALLOTS_NEED, AUDIT_ANSWER], random, tally).hold_closed()
+}
+
+/// Which properties of the index table an audit breaks; none where the board is refused.
+pub fn broken_by_audit(with: &Interface, case: &Case) -> [bool; PROPERTIES.len()] {
+    let lengths = [INDEX_NEED, BALLOTS_NEED, AUDIT_ANSWER];
+    let call = call_audit(with, case, lengths, &mut Random::new(0), &mut Tally::default());
+    let Some(&(board, table)) = call.accepted.first() else { return [false; PROPERTIES.len()] };
+    broken(board, call.buffers[table].0.given()).expect("a row for each item")
+}
+
+/// Calls the audit, and the reference beside it. The lengths are of the index table, the ballot table
+/// and the answer.
+fn call_audit<'a>(
     with: &Interface,
-    case: &Case,
+    case: &'a Case,
     lengths: [usize; 3],
     random: &mut Random,
     tally: &mut Tally,
-) -> Result<(), String> {
+) -> Call<'a> {
     let [mut index, mut ballots, mut answer] = lengths.map(|len| Buffer::new(len, random));
     let enough = answer.len() >= AUDIT_ANSWER;
     if enough {
@@ -687,8 +757,9 @@ fn hold_audit(
             words.as_ptr(), words.len(), verdicts.as_ptr(), verdicts.len(),
             index.pointer(), il, ballots.pointer(), bl, answer.pointer(), al)
     };
-    let buffers = [(&answer, "audit's answer"), (&index, "index table"), (&ballots, "ballot table")];
-    agree("audit", given, enough, &buffers)
+    let accepted = if enough && answer.given()[0] == 0 { vec![(&words[..], 1)] } else { Vec::new() };
+    let buffers = vec![(answer, "answer"), (index, "index table"), (ballots, "ballot table")];
+    Call { entry: "audit".to_string(), given, expected: enough, buffers, accepted }
 }
 
 /// A number to ask for: mostly one that exists, at times none, past the end, or past 32 bits.
@@ -713,26 +784,32 @@ fn item_count(case: &Case) -> usize {
 fn check_ancestry(with: &Interface, case: &Case, random: &mut Random, tally: &mut Tally) -> Result<(), String> {
     let (index, ballots) = (buffer_length(INDEX_NEED, random), buffer_length(BALLOTS_NEED, random));
     let (list, answer) = (buffer_length(LIST_NEED, random), answer_length(ANCESTRY_ANSWER, random));
-    hold_ancestry(with, case, [index, ballots, list, answer], random, tally)
+    call_ancestry(with, case, [index, ballots, list, answer], random, tally).map_or(Ok(()), |call| call.hold())
 }
 
 fn check_ancestry_full(with: &Interface, case: &Case, random: &mut Random, tally: &mut Tally) -> Result<(), String> {
-    for ballots in [BALLOTS_NEED, BALLOTS_NEED - 1, longer(random)] {
-        hold_ancestry(with, case, [INDEX_NEED, ballots, LIST_NEED, ANCESTRY_ANSWER], random, tally)?;
+    for [index, ballots] in table_lengths(random) {
+        let lengths = [index, ballots, LIST_NEED, ANCESTRY_ANSWER];
+        call_ancestry(with, case, lengths, random, tally).map_or(Ok(()), |call| call.hold())?;
     }
     Ok(())
 }
 
-/// Holds an ancestry to the reference. The lengths are of the index table, the ballot table, the
-/// list and the answer.
-fn hold_ancestry(
+fn check_ancestry_closed(with: &Interface, case: &Case, random: &mut Random, tally: &mut Tally) -> Result<(), String> {
+    let lengths = [INDEX_NEED, BALLOTS_NEED, LIST_NEED, ANCESTRY_ANSWER];
+    call_ancestry(with, case, lengths, random, tally).map_or(Ok(()), |call| call.hold_closed())
+}
+
+/// Calls the ancestry, and the reference beside it. The lengths are of the index table, the ballot
+/// table, the list and the answer. None where the library has no such entry.
+fn call_ancestry<'a>(
     with: &Interface,
-    case: &Case,
+    case: &'a Case,
     lengths: [usize; 4],
     random: &mut Random,
     tally: &mut Tally,
-) -> Result<(), String> {
-    let Some(entry) = with.ancestry else { return Ok(()) };
+) -> Option<Call<'a>> {
+    let entry = with.ancestry?;
     let [mut index, mut ballots, mut list, mut answer] = lengths.map(|len| Buffer::new(len, random));
     let number = asked(item_count(case), random);
     let enough = answer.len() >= ANCESTRY_ANSWER;
@@ -752,9 +829,10 @@ fn hold_ancestry(
             words.as_ptr(), words.len(), verdicts.as_ptr(), verdicts.len(), number,
             index.pointer(), il, ballots.pointer(), bl, list.pointer(), ll, answer.pointer(), al)
     };
-    let buffers =
-        [(&answer, "ancestry's answer"), (&list, "list"), (&index, "index table"), (&ballots, "ballot table")];
-    agree("ancestry", given, enough, &buffers).map_err(|message| format!("ancestry of item {number}: {message}"))
+    // 19 is given of a board that was accepted.
+    let accepted = if enough && matches!(answer.given()[0], 0 | 19) { vec![(&words[..], 2)] } else { Vec::new() };
+    let buffers = vec![(answer, "answer"), (list, "list"), (index, "index table"), (ballots, "ballot table")];
+    Some(Call { entry: format!("ancestry of item {number}"), given, expected: enough, buffers, accepted })
 }
 
 fn check_compare(with: &Interface, case: &Case, random: &mut Random, tally: &mut Tally) -> Result<(), String> {
@@ -767,28 +845,36 @@ fn check_compare(with: &Interface, case: &Case, random: &mut Random, tally: &mut
         }
     });
     let answer = answer_length(COMPARE_ANSWER, random);
-    hold_compare(with, case, [ki, kb, li, lb, answer], random, tally)
+    call_compare(with, case, [ki, kb, li, lb, answer], random, tally).map_or(Ok(()), |call| call.hold())
 }
 
 fn check_compare_full(with: &Interface, case: &Case, random: &mut Random, tally: &mut Tally) -> Result<(), String> {
-    let need = BALLOTS_NEED;
     let more = longer(random);
-    for (kept, later) in [(need, need), (need - 1, need), (need, need - 1), (more, more)] {
-        hold_compare(with, case, [INDEX_NEED, kept, INDEX_NEED, later, COMPARE_ANSWER], random, tally)?;
+    let mut both = vec![(NEED, NEED), (more, more)];
+    both.extend(TOO_SHORT.map(|short| (short, NEED)));
+    both.extend(TOO_SHORT.map(|short| (NEED, short)));
+    for ([ki, kb], [li, lb]) in both {
+        let lengths = [ki, kb, li, lb, COMPARE_ANSWER];
+        call_compare(with, case, lengths, random, tally).map_or(Ok(()), |call| call.hold())?;
     }
     Ok(())
 }
 
-/// Holds a comparison to the reference. The lengths are of the kept board's two tables, the later
-/// one's, and the answer.
-fn hold_compare(
+fn check_compare_closed(with: &Interface, case: &Case, random: &mut Random, tally: &mut Tally) -> Result<(), String> {
+    let lengths = [INDEX_NEED, BALLOTS_NEED, INDEX_NEED, BALLOTS_NEED, COMPARE_ANSWER];
+    call_compare(with, case, lengths, random, tally).map_or(Ok(()), |call| call.hold_closed())
+}
+
+/// Calls the comparison, and the reference beside it. The lengths are of the kept board's two tables,
+/// the later one's, and the answer. None where the library has no such entry.
+fn call_compare<'a>(
     with: &Interface,
-    case: &Case,
+    case: &'a Case,
     lengths: [usize; 5],
     random: &mut Random,
     tally: &mut Tally,
-) -> Result<(), String> {
-    let Some(entry) = with.compare else { return Ok(()) };
+) -> Option<Call<'a>> {
+    let entry = with.compare?;
     let (kept, later) = kept_and_later(case);
     let number = asked_main(kept, later, random);
     let [mut ki, mut kb, mut li, mut lb, mut answer] = lengths.map(|len| Buffer::new(len, random));
@@ -810,14 +896,26 @@ fn hold_compare(
             ki.pointer(), lengths[0], kb.pointer(), lengths[1],
             li.pointer(), lengths[2], lb.pointer(), lengths[3], answer.pointer(), lengths[4])
     };
-    let buffers = [
-        (&answer, "comparison's answer"),
-        (&ki, "kept index table"),
-        (&kb, "kept ballot table"),
-        (&li, "later index table"),
-        (&lb, "later ballot table"),
+    let accepted = if enough { accepted_in_comparison(answer.given(), kept, later) } else { Vec::new() };
+    let buffers = vec![
+        (answer, "answer"),
+        (ki, "kept index table"),
+        (kb, "kept ballot table"),
+        (li, "later index table"),
+        (lb, "later ballot table"),
     ];
-    agree("compare", given, enough, &buffers).map_err(|message| format!("compare at main {number}: {message}"))
+    Some(Call { entry: format!("compare at main {number}"), given, expected: enough, buffers, accepted })
+}
+
+/// The boards that were accepted by a comparison's answer, with the places of their index tables.
+fn accepted_in_comparison<'a>(answer: &[u32], kept: Board<'a>, later: Board<'a>) -> Vec<(&'a [u32], usize)> {
+    let (kept, later) = ((kept.words, 1), (later.words, 3));
+    match answer[..3] {
+        [0, 0, _] => Vec::new(),
+        // 19 is given of a board that was accepted.
+        [0, _, number] if number != 19 => vec![kept],
+        _ => vec![kept, later],
+    }
 }
 
 /// A case's two boards, the kept one first.

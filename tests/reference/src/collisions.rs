@@ -1,6 +1,7 @@
 //! Collisions, with a hash so weak that they can be made: what SHA-256 will not show.
 
-use crate::audit::{audit_with, History};
+use crate::audit::audit_with;
+use crate::closed::check_closed;
 use crate::compare::{compare_with, Board, Comparison, Tables};
 use crate::format::*;
 use crate::plan::{Laid, Plan};
@@ -18,11 +19,12 @@ pub fn weak_hash(message: &[u32]) -> [u32; 8] {
     [(sum >> 19) + 1, 0, 0, 0, 0, 0, 0, 7]
 }
 
-fn run(laid: &Laid) -> (u32, Option<History>) {
+/// Audits a board. Gives the number, and the index table.
+fn run(laid: &Laid) -> (u32, Vec<u32>) {
     let mut index = vec![3; INDEX_NEED];
     let mut ballots = vec![4; BALLOTS_NEED];
-    let (report, history) = audit_with(weak_hash, &laid.words, &laid.verdicts, &mut index, &mut ballots);
-    (report.number, history)
+    let (report, _) = audit_with(weak_hash, &laid.words, &laid.verdicts, &mut index, &mut ballots);
+    (report.number, index)
 }
 
 fn compare_laid(kept: &Laid, later: &Laid, main_number: usize) -> Comparison {
@@ -130,9 +132,12 @@ pub fn check(seed: u64, seen: &mut Seen) -> Result<(), String> {
         let Some(forged) = forge(&mut later_plan, position, kept.addresses[at], random) else { return Ok(()) };
         later = forged;
     }
-    if run(&later).0 != 0 {
+    let (number, index) = run(&later);
+    if number != 0 {
         return Ok(());
     }
+    // Also where two ballots have one address.
+    check_closed(&later.words, &index).map_err(|message| format!("collision seed {seed}: {message}"))?;
     let (kept_mains, later_mains) = (main_words(&kept, &made.plan), main_words(&later, &later_plan));
     for b in 1..=later_mains.len() {
         let expected = judge(&kept_mains, &later_mains, b);

@@ -4,11 +4,12 @@
 //!
 //! The rules: `sha256`, `format`, `audit`, `compare`, `ancestry`, `program`.
 //! The boards: `random`, `plan`, `sound`, `crowded`, `faults`, `damage`, `collisions`.
-//! The checks: `interface`, `header`, `stand_in`, `checks`, `stored`.
+//! The checks: `interface`, `header`, `stand_in`, `closed`, `checks`, `stored`.
 
 pub mod ancestry;
 pub mod audit;
 pub mod checks;
+pub mod closed;
 pub mod collisions;
 pub mod compare;
 pub mod crowded;

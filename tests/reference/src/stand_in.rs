@@ -3,7 +3,7 @@
 
 use crate::ancestry::ancestry;
 use crate::audit::audit;
-use crate::compare::{compare, Board, Tables};
+use crate::compare::{compare, Board, Comparison, Side, Tables};
 use crate::format::*;
 use crate::interface::*;
 use std::slice::{from_raw_parts, from_raw_parts_mut};
@@ -12,6 +12,9 @@ use std::sync::atomic::{AtomicUsize, Ordering};
 /// What the ballot table needed before request (viii): a row for each item. A planted mistake
 /// asks for it still, and the checks pass it as a longer table.
 pub const BALLOTS_NEED_BEFORE: usize = 6_144;
+/// What the index table needed before request (vii): rows of four words. A planted mistake takes it
+/// still, and the checks pass it as one that is too short.
+pub const INDEX_NEED_BEFORE: usize = 8_192;
 
 pub fn stand_in() -> Interface {
     Interface { audit: stand_in_audit, compare: Some(stand_in_compare), ancestry: Some(stand_in_ancestry) }
@@ -20,7 +23,7 @@ pub fn stand_in() -> Interface {
 /// The mistake the stand-in makes: 0 is none.
 pub static MISTAKE: AtomicUsize = AtomicUsize::new(0);
 
-pub const MISTAKES: [&str; 15] = [
+pub const MISTAKES: [&str; 21] = [
     "none",
     "an answer word is wrong",
     "the last answer word is wrong",
@@ -36,10 +39,42 @@ pub const MISTAKES: [&str; 15] = [
     "a ballot table of one row less is taken",
     "the 408th ballot row is not written",
     "a ballot table that is too short is cleared",
+    "8,192 words of index table are taken",
+    "a cast or spoil is named in its own index row",
+    "a spoil is named in no index row",
+    "a ballot's index row has a main number",
+    "an open ballot's index row has 0",
+    "a spoil is named in no index row of the kept board",
 ];
 
-/// From here on the mistakes are about the ballot table.
-pub const BALLOT_MISTAKES: usize = 11;
+/// From here on the mistakes are about the lengths of tables, and the ballot table's last row.
+pub const LENGTH_MISTAKES: usize = 11;
+
+/// From here on they are about who closed a ballot.
+pub const CLOSED_MISTAKES: usize = 16;
+
+/// Runs an entry with the tables that were passed, or with what a mistake makes of them.
+fn with_tables<T>(tables: Tables, run: impl FnOnce(Tables) -> T) -> T {
+    let Tables { index, ballots } = tables;
+    with_index(index, |index| with_ballots(ballots, |ballots| run(Tables { index, ballots })))
+}
+
+/// Runs an entry with a table of `need` words in the place of a shorter one, which gets the first of them.
+fn with_longer<T>(table: &mut [u32], need: usize, run: impl FnOnce(&mut [u32]) -> T) -> T {
+    let mut longer = table.to_vec();
+    longer.resize(need, 0);
+    let given = run(&mut longer);
+    table.copy_from_slice(&longer[..table.len()]);
+    given
+}
+
+/// Runs an entry with the index table that was passed, or with what a mistake makes of it.
+fn with_index<T>(table: &mut [u32], run: impl FnOnce(&mut [u32]) -> T) -> T {
+    match MISTAKE.load(Ordering::Relaxed) {
+        15 if (INDEX_NEED_BEFORE..INDEX_NEED).contains(&table.len()) => with_longer(table, INDEX_NEED, run),
+        _ => run(table),
+    }
+}
 
 /// Runs an entry with the ballot table that was passed, or with what a mistake makes of it.
 fn with_ballots<T>(table: &mut [u32], run: impl FnOnce(&mut [u32]) -> T) -> T {
@@ -47,13 +82,7 @@ fn with_ballots<T>(table: &mut [u32], run: impl FnOnce(&mut [u32]) -> T) -> T {
     match MISTAKE.load(Ordering::Relaxed) {
         // The reference refuses what is left.
         11 if len < BALLOTS_NEED_BEFORE => run(&mut table[..len.min(BALLOTS_NEED - 1)]),
-        12 if (BALLOTS_NEED - BALLOT_ROW..BALLOTS_NEED).contains(&len) => {
-            let mut longer = table.to_vec();
-            longer.resize(BALLOTS_NEED, 0);
-            let given = run(&mut longer);
-            table.copy_from_slice(&longer[..len]);
-            given
-        }
+        12 if (BALLOTS_NEED - BALLOT_ROW..BALLOTS_NEED).contains(&len) => with_longer(table, BALLOTS_NEED, run),
         13 if len >= BALLOTS_NEED => {
             let row = BALLOTS_NEED - BALLOT_ROW..BALLOTS_NEED;
             let before = table[row.clone()].to_vec();
@@ -70,6 +99,42 @@ fn with_ballots<T>(table: &mut [u32], run: impl FnOnce(&mut [u32]) -> T) -> T {
             given
         }
         _ => run(table),
+    }
+}
+
+/// Which board an index table is of.
+#[derive(Clone, Copy, PartialEq, Eq)]
+enum Of {
+    OneBoard,
+    Kept,
+    Later,
+}
+
+/// Makes a mistake about who closed a ballot in an accepted board's index table. In a comparison the
+/// last of these mistakes is made for the kept board, the others for the later one.
+fn close_wrongly(board: Board, index: &mut [u32], of: Of) {
+    let mistake = MISTAKE.load(Ordering::Relaxed);
+    let spared = if mistake == 20 { Of::Later } else { Of::Kept };
+    if mistake < CLOSED_MISTAKES || of == spared {
+        return;
+    }
+    let right = index.to_vec();
+    let rows: Vec<&[u32]> = right.chunks(INDEX_ROW).take(board.verdicts.len() / VERDICT_WORDS).collect();
+    let is = |row: &[u32], wanted: u32| code(board.words[row[column::PLACE] as usize]) == wanted;
+    let fifth = |number: usize| (number - 1) * INDEX_ROW + column::CLOSED_BY;
+    for (number, row) in (1..).zip(&rows).filter(|(_, row)| is(row, BALLOT)) {
+        let closed_by = row[column::CLOSED_BY] as usize;
+        // An open ballot's fifth word is no item's number.
+        match (mistake, rows.get(closed_by - 1)) {
+            (16, Some(_)) => {
+                index[fifth(number)] = NOT_CLOSED;
+                index[fifth(closed_by)] = closed_by as u32;
+            }
+            (17 | 20, Some(closer)) if is(closer, SPOIL) => index[fifth(number)] = NOT_CLOSED,
+            (18, Some(closer)) => index[fifth(number)] = closer[column::MAINS_BEFORE] + 1,
+            (19, None) => index[fifth(number)] = 0,
+            _ => {}
+        }
     }
 }
 
@@ -108,12 +173,16 @@ unsafe extern "C" fn stand_in_audit(
     if answer_len < AUDIT_ANSWER {
         return too_short(answer, answer_len);
     }
-    let report = with_ballots(from_raw_parts_mut(ballots, ballots_len), |ballots| audit(
-        from_raw_parts(board, board_len),
-        from_raw_parts(verdicts, verdicts_len),
-        from_raw_parts_mut(index, index_len),
-        ballots,
-    ));
+    let board = Board { words: from_raw_parts(board, board_len), verdicts: from_raw_parts(verdicts, verdicts_len) };
+    let tables =
+        Tables { index: from_raw_parts_mut(index, index_len), ballots: from_raw_parts_mut(ballots, ballots_len) };
+    let report = with_tables(tables, |Tables { index, ballots }| {
+        let report = audit(board.words, board.verdicts, index, ballots);
+        if report.number == 0 {
+            close_wrongly(board, index, Of::OneBoard);
+        }
+        report
+    });
     finish(answer, answer_len, &audit_words(&report), [(index, index_len), (ballots, ballots_len)])
 }
 
@@ -129,16 +198,34 @@ unsafe extern "C" fn stand_in_compare(
     if answer_len < COMPARE_ANSWER {
         return too_short(answer, answer_len);
     }
-    let run = |kept_ballots: &mut [u32], later_ballots: &mut [u32]| compare(
-        Board { words: from_raw_parts(kept, kept_len), verdicts: from_raw_parts(kept_verdicts, kept_verdicts_len) },
-        Board { words: from_raw_parts(later, later_len), verdicts: from_raw_parts(later_verdicts, later_verdicts_len) },
-        main_number,
-        Tables { index: from_raw_parts_mut(kept_index, kept_index_len), ballots: kept_ballots },
-        Tables { index: from_raw_parts_mut(later_index, later_index_len), ballots: later_ballots },
-    );
-    let comparison = with_ballots(from_raw_parts_mut(kept_ballots, kept_ballots_len), |of_kept| {
-        with_ballots(from_raw_parts_mut(later_ballots, later_ballots_len), |of_later| run(of_kept, of_later))
-    });
+    let kept =
+        Board { words: from_raw_parts(kept, kept_len), verdicts: from_raw_parts(kept_verdicts, kept_verdicts_len) };
+    let later =
+        Board { words: from_raw_parts(later, later_len), verdicts: from_raw_parts(later_verdicts, later_verdicts_len) };
+    let kept_tables = Tables {
+        index: from_raw_parts_mut(kept_index, kept_index_len),
+        ballots: from_raw_parts_mut(kept_ballots, kept_ballots_len),
+    };
+    let later_tables = Tables {
+        index: from_raw_parts_mut(later_index, later_index_len),
+        ballots: from_raw_parts_mut(later_ballots, later_ballots_len),
+    };
+    let comparison = with_tables(kept_tables, |of_kept| with_tables(later_tables, |of_later| {
+        let kept_tables = Tables { index: &mut *of_kept.index, ballots: of_kept.ballots };
+        let later_tables = Tables { index: &mut *of_later.index, ballots: of_later.ballots };
+        let comparison = compare(kept, later, main_number, kept_tables, later_tables);
+        let refused = match comparison {
+            Comparison::Refused { side, number, .. } if number != 19 => Some(side),
+            _ => None,
+        };
+        if refused != Some(Side::Kept) {
+            close_wrongly(kept, of_kept.index, Of::Kept);
+        }
+        if refused.is_none() {
+            close_wrongly(later, of_later.index, Of::Later);
+        }
+        comparison
+    }));
     let tables = [(later_index, later_index_len), (later_ballots, later_ballots_len)];
     finish(answer, answer_len, &compare_words(&comparison), tables)
 }
@@ -153,14 +240,17 @@ unsafe extern "C" fn stand_in_ancestry(
     if answer_len < ANCESTRY_ANSWER {
         return too_short(answer, answer_len);
     }
-    let given = with_ballots(from_raw_parts_mut(ballots, ballots_len), |ballots| ancestry(
-        from_raw_parts(board, board_len),
-        from_raw_parts(verdicts, verdicts_len),
-        item_number,
-        from_raw_parts_mut(index, index_len),
-        ballots,
-        from_raw_parts_mut(list, list_len),
-    ));
+    let board = Board { words: from_raw_parts(board, board_len), verdicts: from_raw_parts(verdicts, verdicts_len) };
+    let tables =
+        Tables { index: from_raw_parts_mut(index, index_len), ballots: from_raw_parts_mut(ballots, ballots_len) };
+    let written = from_raw_parts_mut(list, list_len);
+    let given = with_tables(tables, |Tables { index, ballots }| {
+        let given = ancestry(board.words, board.verdicts, item_number, index, ballots, written);
+        if matches!(given.number, 0 | 19) {
+            close_wrongly(board, index, Of::OneBoard);
+        }
+        given
+    });
     let tables = [(list, list_len), (ballots, ballots_len)];
     finish(answer, answer_len, &[given.number, given.count], tables)
 }

@@ -6,6 +6,7 @@
 //!   check --stand-in ..         the reference in the library's place, to try the harness
 
 use reference::checks::*;
+use reference::closed::PROPERTIES;
 use reference::collisions;
 use reference::crowded::crowded;
 use reference::header::check_header;
@@ -14,7 +15,7 @@ use reference::program::{bytes, program};
 use reference::random::Random;
 use reference::sha256::{check_vectors, sha256};
 use reference::sound::Shape;
-use reference::stand_in::{stand_in, BALLOT_MISTAKES, MISTAKE, MISTAKES};
+use reference::stand_in::{stand_in, CLOSED_MISTAKES, LENGTH_MISTAKES, MISTAKE, MISTAKES};
 use reference::stored::check_folder;
 use std::collections::BTreeMap;
 use std::fs;
@@ -163,38 +164,66 @@ fn hidden_tracks() {
     println!("tracks     300 boards report the same main list with other hidden tracks");
 }
 
-/// The comparison itself is tried on a stand-in that makes a mistake. Those about the ballot
-/// table are to be found with a full board, by the lengths that are always tried with it.
+/// The checks themselves are tried on a stand-in that makes a mistake. Those about lengths are to be
+/// found with a full board, by the lengths that are always tried with it; those about who closed a
+/// ballot also without the reference.
 fn mistakes_are_found() {
     let makers = Makers::default();
     let sound: Vec<Case> = (0..400).map(|seed| case(&makers, Group::Sound, seed)).collect();
     let full = [case(&makers, Group::Full, 0)];
+    let about_lengths = LENGTH_MISTAKES..CLOSED_MISTAKES;
+    let mut broken = [0; PROPERTIES.len()];
     for (mistake, what) in MISTAKES.iter().enumerate() {
         MISTAKE.store(mistake, Ordering::Relaxed);
-        let mut found = [0; 3];
-        if mistake < BALLOT_MISTAKES {
-            add_differences(&sound, ANY_LENGTH, &mut found);
+        let mut found = Vec::new();
+        if !about_lengths.contains(&mistake) {
+            found.push(differences(&sound, ANY_LENGTH));
         }
-        if mistake == 0 || mistake >= BALLOT_MISTAKES {
-            add_differences(&full, FULL_LENGTHS, &mut found);
+        if mistake == 0 || about_lengths.contains(&mistake) {
+            found.push(differences(&full, FULL_LENGTHS));
         }
-        let right = if mistake == 0 { found == [0; 3] } else { found.iter().all(|&f| f > 0) };
+        if mistake == 0 || mistake >= CLOSED_MISTAKES {
+            found.push(differences(&sound, CLOSED));
+        }
+        let right = found.iter().flatten().all(|&times| (times > 0) == (mistake > 0));
         if !right {
-            fail(&format!("the comparison does not see '{what}': found {found:?} times"));
+            fail(&format!("the checks do not see '{what}' as they should: found {found:?} times"));
+        }
+        if mistake >= CLOSED_MISTAKES {
+            add_broken(&sound, &mut broken);
         }
     }
     MISTAKE.store(0, Ordering::Relaxed);
+    if broken.contains(&0) {
+        fail(&format!("the mistakes break the properties of the index table {broken:?} times, one of them never"));
+    }
     println!("harness    {} planted mistakes are found in each entry", MISTAKES.len() - 1);
+    println!(
+        "           {} of them without the reference, by {} properties of the index table",
+        MISTAKES.len() - CLOSED_MISTAKES,
+        PROPERTIES.len()
+    );
 }
 
-/// Counts the cases in which the stand-in differs from the reference, by entry.
-fn add_differences(cases: &[Case], checks: [Check; 3], found: &mut [usize; 3]) {
+/// Counts the cases in which the stand-in's index table breaks each property.
+fn add_broken(cases: &[Case], broken: &mut [usize; PROPERTIES.len()]) {
+    for case in cases {
+        for (times, is_broken) in broken.iter_mut().zip(broken_by_audit(&stand_in(), case)) {
+            *times += usize::from(is_broken);
+        }
+    }
+}
+
+/// Counts the cases in which the checks find something wrong with the stand-in, by entry.
+fn differences(cases: &[Case], checks: [Check; 3]) -> [usize; 3] {
+    let mut found = [0; 3];
     for (seed, case) in cases.iter().enumerate() {
         let (random, tally) = (&mut Random::new(seed as u64), &mut Tally::default());
         for (entry, check) in checks.iter().enumerate() {
             found[entry] += usize::from(check(&stand_in(), case, random, tally).is_err());
         }
     }
+    found
 }
 
 /// What all cases gave.
