@@ -5,13 +5,14 @@ use crate::ancestry::ancestry;
 use crate::audit::{audit, refused, Report};
 use crate::closed::{broken, check_closed, PROPERTIES};
 use crate::compare::{compare, Board, Tables};
-use crate::crowded::crowded;
+use crate::crowded::{crowded, most_ballots};
 use crate::damage::{damage_plan, damage_words, no_board};
 use crate::faults::{faults, rank, spoil_more, Fault};
 use crate::format::*;
 use crate::interface::*;
 use crate::plan::Plan;
 use crate::random::Random;
+use crate::reached::{Ballots, WANTED};
 use crate::sha256::sha256;
 use crate::sound::{any_shape, make, Expected, Made, Shape};
 use crate::stand_in::{BALLOTS_NEED_BEFORE, INDEX_NEED_BEFORE};
@@ -54,10 +55,12 @@ pub enum Group {
     Long,
     /// As many counted ballots as there can be, or nearly.
     Full,
+    /// As many ballots as there can be, closed or open by turns.
+    Ballots,
 }
 
-pub const GROUPS: [Group; 7] =
-    [Group::Sound, Group::Faults, Group::Order, Group::Rules, Group::Words, Group::Long, Group::Full];
+pub const GROUPS: [Group; 8] =
+    [Group::Sound, Group::Faults, Group::Order, Group::Rules, Group::Words, Group::Long, Group::Full, Group::Ballots];
 
 pub fn group_named(name: &str) -> Option<Group> {
     GROUPS.into_iter().find(|g| format!("{g:?}").eq_ignore_ascii_case(name))
@@ -193,6 +196,11 @@ pub fn case(makers: &Makers, group: Group, seed: u64) -> Case {
         }
         Group::Long => long_case(&name, seed, random),
         Group::Full => full_case(makers, &name, seed, random),
+        Group::Ballots => {
+            let closed = seed % 2 == 0;
+            let made = most_ballots(random, closed);
+            sound_case(name(if closed { "ballots, closed" } else { "ballots, open" }), &made, random)
+        }
     }
 }
 
@@ -531,6 +539,13 @@ impl Audited {
 
 fn other_than_made(what: &str) -> Result<(), String> {
     Err(format!("the reference has {what} other than it was made"))
+}
+
+/// Which of what is wanted a case shows; nothing where it is not made sound.
+pub fn shown(case: &Case) -> [bool; WANTED.len()] {
+    let Known::Sound(expected, places, _) = &case.known else { return [false; WANTED.len()] };
+    let ballots = Ballots::new(&case.words, places, expected);
+    WANTED.map(|(_, shows)| shows(&ballots))
 }
 
 /// Other hidden tracks and signatures never change what is reported of the main list.

@@ -1,5 +1,6 @@
 //! Crowded boards from a seed: as many counted ballots as the items allow, or nearly so many
-//! with voters who cast again, so that rows of the ballot table move.
+//! with voters who cast again, so that rows of the ballot table move; and as many ballots as the
+//! items allow, closed or open.
 
 use crate::format::*;
 use crate::random::Random;
@@ -28,6 +29,7 @@ type Step = (usize, u32);
 type Cast = (usize, u32, u32);
 
 /// A voter, with the latest session's weight and key.
+#[derive(Clone)]
 struct Voter {
     number: u32,
     weight: u32,
@@ -36,12 +38,24 @@ struct Voter {
     latest: [usize; 4],
 }
 
+impl Voter {
+    fn new(number: u32) -> Voter {
+        Voter { number, weight: 0, key: ZEROS, latest: [0; 4] }
+    }
+}
+
 /// How heavy votes are. In a crowd every way brings the total past 32 bits.
 #[derive(Clone, Copy)]
 enum Weights {
     Greatest,
     Any,
     Mixed,
+}
+
+impl Weights {
+    fn any(random: &mut Random) -> Weights {
+        *random.pick(&[Weights::Greatest, Weights::Any, Weights::Mixed])
+    }
 }
 
 /// A board in which so many voters cast as the shape says. Items that are left over go to
@@ -53,7 +67,9 @@ pub fn crowded(random: &mut Random, shape: Shape) -> Made {
     let steps = steps(shape, maker.random);
     let times = times(&mut maker, steps.len());
     add_round(&mut maker, times[0], times[times.len() - 1]);
-    let casts = add_votes(&mut maker, shape.voters, &steps, &times);
+    let weights = Weights::any(maker.random);
+    let mut voters: Vec<Voter> = numbers(shape.voters, maker.random).into_iter().map(Voter::new).collect();
+    let casts = add_votes(&mut maker, &mut voters, weights, &steps, &times);
     maker.counted = last_casts(&casts);
     if shape.extraction {
         maker.intent();
@@ -62,6 +78,50 @@ pub fn crowded(random: &mut Random, shape: Shape) -> Made {
     }
     assert_eq!(maker.items.len(), shape.items, "the items add up");
     maker.finish()
+}
+
+/// A board of 2,048 items with as many ballots as there can be: all in one session, each of them
+/// closed or each of them open.
+pub fn most_ballots(random: &mut Random, closed: bool) -> Made {
+    let shape = Shape { items: MAX_ITEMS, words: None, long: 20, voters: 1, extraction: false };
+    let mut maker = Maker::new(random, sha256, shape);
+    maker.genesis();
+    add_config(&mut maker);
+    let mut lanes = ballot_lanes(closed, maker.random);
+    let lane_count = lanes.len();
+    let steps = merge(&mut lanes, maker.random);
+    let times = times(&mut maker, 1 + steps.len());
+    add_round(&mut maker, times[0], times[steps.len()]);
+    let weights = Weights::any(maker.random);
+    let mut voter = Voter::new(maker.random.word());
+    add_step(&mut maker, &mut voter, SESSION, times[0], weights);
+    // Each lane goes on from the session by itself.
+    let casts = add_votes(&mut maker, &mut vec![voter; lane_count], weights, &steps, &times[1..]);
+    maker.counted = last_casts(&casts);
+    assert_eq!(maker.items.len(), MAX_ITEMS, "the items add up");
+    maker.finish()
+}
+
+/// A lane for each ballot that there is room for behind the config and a session. What room is left
+/// goes to hidden tracks.
+fn ballot_lanes(closed: bool, random: &mut Random) -> Vec<Vec<Step>> {
+    let ways: &[u32] = if closed { *random.pick(&[&[CAST, SPOIL][..], &[CAST], &[SPOIL]]) } else { &[] };
+    let each = if closed { 4 } else { 3 };
+    let room = MAX_ITEMS - 5 - 1;
+    let (count, mut left) = (room / each, room % each);
+    let mut lanes = Vec::new();
+    for who in 0..count {
+        let mut codes = vec![VOTER_COMMITMENT, SERVER_COMMITMENT, BALLOT];
+        if left > 0 {
+            codes.push(TRACK);
+            left -= 1;
+        }
+        if closed {
+            codes.push(*random.pick(ways));
+        }
+        lanes.push(codes.into_iter().map(|code| (who, code)).collect());
+    }
+    lanes
 }
 
 /// A contest, a threshold and an authorizer, in some order.
@@ -78,12 +138,7 @@ fn add_config(maker: &mut Maker) {
 }
 
 /// The voters' items, each at its time. Gives all casts in board order.
-fn add_votes(maker: &mut Maker, count: usize, steps: &[Step], times: &[u64]) -> Vec<Cast> {
-    let weights = *maker.random.pick(&[Weights::Greatest, Weights::Any, Weights::Mixed]);
-    let mut voters: Vec<Voter> = numbers(count, maker.random)
-        .into_iter()
-        .map(|number| Voter { number, weight: 0, key: ZEROS, latest: [0; 4] })
-        .collect();
+fn add_votes(maker: &mut Maker, voters: &mut [Voter], weights: Weights, steps: &[Step], times: &[u64]) -> Vec<Cast> {
     let mut casts = Vec::new();
     for (&(who, code), &time) in steps.iter().zip(times) {
         let voter = &mut voters[who];

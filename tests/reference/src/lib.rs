@@ -4,7 +4,7 @@
 //!
 //! The rules: `sha256`, `format`, `audit`, `compare`, `ancestry`, `program`.
 //! The boards: `random`, `plan`, `sound`, `crowded`, `faults`, `damage`, `collisions`.
-//! The checks: `interface`, `header`, `stand_in`, `closed`, `checks`, `stored`.
+//! The checks: `interface`, `header`, `stand_in`, `closed`, `reached`, `checks`, `stored`.
 
 pub mod ancestry;
 pub mod audit;
@@ -21,6 +21,7 @@ pub mod interface;
 pub mod plan;
 pub mod program;
 pub mod random;
+pub mod reached;
 pub mod sha256;
 pub mod sound;
 pub mod stand_in;

@@ -13,6 +13,7 @@ use reference::header::check_header;
 use reference::interface::{library, Interface};
 use reference::program::{bytes, program};
 use reference::random::Random;
+use reference::reached::WANTED;
 use reference::sha256::{check_vectors, sha256};
 use reference::sound::Shape;
 use reference::stand_in::{stand_in, CLOSED_MISTAKES, LENGTH_MISTAKES, MISTAKE, MISTAKES};
@@ -232,6 +233,8 @@ struct Counts {
     boards: usize,
     /// Of the full boards those that fill the ballot table, other sound ones, refused ones.
     full: [usize; 3],
+    /// The sound boards that show each thing that is wanted of ballots.
+    shown: [usize; WANTED.len()],
     words: usize,
     by_number: BTreeMap<u32, usize>,
     by_reason: BTreeMap<String, usize>,
@@ -274,6 +277,9 @@ fn hold_reference(case: &Case, group: Group, counts: &mut Counts) -> Result<(), 
         let filled = check_full(case)?;
         counts.full[if filled { 0 } else { 1 + usize::from(number != 0) }] += 1;
     }
+    for (times, is_shown) in counts.shown.iter_mut().zip(shown(case)) {
+        *times += usize::from(is_shown);
+    }
     Ok(())
 }
 
@@ -289,7 +295,7 @@ fn hold_library(
     let tallies = [&mut counts.audit, &mut counts.compare, &mut counts.ancestry];
     for (entry, tally) in tallies.into_iter().enumerate() {
         ANY_LENGTH[entry](with, case, random, tally)?;
-        if group == Group::Full {
+        if matches!(group, Group::Full | Group::Ballots) {
             FULL_LENGTHS[entry](with, case, random, tally)?;
         }
     }
@@ -311,6 +317,7 @@ fn shares(cases: u64) -> Vec<(Group, u64)> {
     vec![
         (Group::Long, 48.min(cases)),
         (Group::Full, 40.min(cases)),
+        (Group::Ballots, 16.min(cases)),
         (Group::Sound, part(15)),
         (Group::Faults, part(40)),
         (Group::Order, part(15)),
@@ -324,7 +331,7 @@ fn cases(options: &Options, with: Option<Interface>) {
     let total = run_cases(options, with);
     print_reference(options, &total, start.elapsed().as_secs_f64());
     if options.cases >= 5_000 && !all_made(&total) {
-        fail("some refusal, reason or full board was not made");
+        fail("some refusal, reason, full board or sort of ballot was not made, or too rarely");
     }
     if let Some(with) = with {
         print_library(&with, &total);
@@ -381,15 +388,20 @@ fn print_reference(options: &Options, total: &Counts, seconds: f64) {
         "           full        {filled} with {FULL} counted ballots fill a table of {FULL_TABLE} words, \
          {fewer} count fewer, {refused} are refused"
     );
+    for (at, ((what, _), times)) in WANTED.iter().zip(total.shown).enumerate() {
+        let title = if at == 0 { "ballots" } else { "" };
+        println!("           {title:<11} {times} boards: {what}");
+    }
 }
 
-/// Whether every refusal, every reason and enough full boards of each kind were made.
+/// Whether every refusal, every reason, and enough full boards and ballots of each kind were made.
 fn all_made(total: &Counts) -> bool {
     // All but 2, which takes a short table whatever the board is.
     let refusals = [1].into_iter().chain(3..=16).chain([18]).all(|n| total.by_number.contains_key(&n));
     let reasons = total.by_reason.len() >= Makers::default().faults.len();
     let [filled, fewer, refused] = total.full;
-    refusals && reasons && filled >= 5 && fewer >= 5 && refused >= 10
+    let ballots = total.shown.iter().all(|&times| times >= 5);
+    refusals && reasons && ballots && filled >= 5 && fewer >= 5 && refused >= 10
 }
 
 /// What each of the library's entries was held to, or that it has no such entry.
@@ -425,7 +437,7 @@ fn told(tally: &Tally) -> String {
 fn merge(total: &mut Counts, part: Counts) {
     total.boards += part.boards;
     total.words += part.words;
-    for (a, b) in total.full.iter_mut().zip(part.full) {
+    for (a, b) in total.full.iter_mut().chain(&mut total.shown).zip(part.full.into_iter().chain(part.shown)) {
         *a += b;
     }
     for (number, count) in part.by_number {
