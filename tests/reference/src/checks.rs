@@ -658,9 +658,17 @@ struct Call<'a> {
     given: bool,
     expected: bool,
     buffers: Vec<(Buffer, &'static str)>,
-    /// By the answer given: the boards that were accepted, each with the place of its index table among
-    /// the buffers.
-    accepted: Vec<(&'a [u32], usize)>,
+    /// In the order in which they are audited.
+    boards: Vec<Passed<'a>>,
+}
+
+/// A board that was passed to an entry.
+struct Passed<'a> {
+    words: &'a [u32],
+    /// By the answer given.
+    accepted: bool,
+    /// The place of its index table among the buffers. Its ballot table follows there.
+    index: usize,
 }
 
 impl Call<'_> {
@@ -679,10 +687,25 @@ impl Call<'_> {
 
     /// Holds each index table that was filled to its board, the reference left aside.
     fn hold_closed(&self) -> Result<(), String> {
-        self.accepted.iter().try_for_each(|&(board, table)| {
-            let (index, what) = &self.buffers[table];
-            check_closed(board, index.given()).map_err(|message| format!("{}: {what}: {message}", self.entry))
-        })
+        for board in self.boards.iter().filter(|board| board.accepted) {
+            let (index, what) = &self.buffers[board.index];
+            check_closed(board.words, index.given()).map_err(|message| format!("{}: {what}: {message}", self.entry))?;
+        }
+        Ok(())
+    }
+
+    /// Holds the tables of each board that was audited to these, index table first.
+    fn hold_tables(&self, tables: &[Vec<u32>; 2]) -> Result<(), String> {
+        let audited = 1 + self.boards.iter().take_while(|board| board.accepted).count();
+        for board in self.boards.iter().take(audited) {
+            for ((table, what), expected) in self.buffers[board.index..].iter().zip(tables) {
+                if let Some(at) = (0..expected.len()).find(|&at| table.given()[at] != expected[at]) {
+                    let (given, expected) = (table.given()[at], expected[at]);
+                    return Err(format!("{}: word {at} of the {what} is {given}, not {expected}", self.entry));
+                }
+            }
+        }
+        Ok(())
     }
 }
 
@@ -741,8 +764,28 @@ fn check_audit_closed(with: &Interface, case: &Case, random: &mut Random, tally:
 pub fn broken_by_audit(with: &Interface, case: &Case) -> [bool; PROPERTIES.len()] {
     let lengths = [INDEX_NEED, BALLOTS_NEED, AUDIT_ANSWER];
     let call = call_audit(with, case, lengths, &mut Random::new(0), &mut Tally::default());
-    let Some(&(board, table)) = call.accepted.first() else { return [false; PROPERTIES.len()] };
-    broken(board, call.buffers[table].0.given()).expect("a row for each item")
+    match &call.boards[0] {
+        board if board.accepted => {
+            broken(board.words, call.buffers[board.index].0.given()).expect("a row for each item")
+        }
+        _ => [false; PROPERTIES.len()],
+    }
+}
+
+/// Holds the tables that every entry leaves for a board to these, index table first. In the comparison
+/// the board is both the kept one and the later one.
+pub fn check_tables(with: &Interface, words: &[u32], verdicts: &[u32], tables: &[Vec<u32>; 2]) -> Result<(), String> {
+    let (words, verdicts) = (words.to_vec(), verdicts.to_vec());
+    let other = (words.clone(), verdicts.clone());
+    let case = &Case { name: String::new(), words, verdicts, known: Known::Nothing, other, kept: true };
+    let [i, b] = [tables[0].len(), tables[1].len()];
+    let (random, tally) = (&mut Random::new(0), &mut Tally::default());
+    let calls = [
+        Some(call_audit(with, case, [i, b, AUDIT_ANSWER], random, tally)),
+        call_compare(with, case, [i, b, i, b, COMPARE_ANSWER], random, tally),
+        call_ancestry(with, case, [i, b, LIST_NEED, ANCESTRY_ANSWER], random, tally),
+    ];
+    calls.iter().flatten().try_for_each(|call| call.hold_tables(tables))
 }
 
 /// Calls the audit, and the reference beside it. The lengths are of the index table, the ballot table
@@ -772,9 +815,9 @@ fn call_audit<'a>(
             words.as_ptr(), words.len(), verdicts.as_ptr(), verdicts.len(),
             index.pointer(), il, ballots.pointer(), bl, answer.pointer(), al)
     };
-    let accepted = if enough && answer.given()[0] == 0 { vec![(&words[..], 1)] } else { Vec::new() };
+    let boards = vec![Passed { words, accepted: enough && answer.given()[0] == 0, index: 1 }];
     let buffers = vec![(answer, "answer"), (index, "index table"), (ballots, "ballot table")];
-    Call { entry: "audit".to_string(), given, expected: enough, buffers, accepted }
+    Call { entry: "audit".to_string(), given, expected: enough, buffers, boards }
 }
 
 /// A number to ask for: mostly one that exists, at times none, past the end, or past 32 bits.
@@ -845,9 +888,9 @@ fn call_ancestry<'a>(
             index.pointer(), il, ballots.pointer(), bl, list.pointer(), ll, answer.pointer(), al)
     };
     // 19 is given of a board that was accepted.
-    let accepted = if enough && matches!(answer.given()[0], 0 | 19) { vec![(&words[..], 2)] } else { Vec::new() };
+    let boards = vec![Passed { words, accepted: enough && matches!(answer.given()[0], 0 | 19), index: 2 }];
     let buffers = vec![(answer, "answer"), (list, "list"), (index, "index table"), (ballots, "ballot table")];
-    Some(Call { entry: format!("ancestry of item {number}"), given, expected: enough, buffers, accepted })
+    Some(Call { entry: format!("ancestry of item {number}"), given, expected: enough, buffers, boards })
 }
 
 fn check_compare(with: &Interface, case: &Case, random: &mut Random, tally: &mut Tally) -> Result<(), String> {
@@ -911,7 +954,11 @@ fn call_compare<'a>(
             ki.pointer(), lengths[0], kb.pointer(), lengths[1],
             li.pointer(), lengths[2], lb.pointer(), lengths[3], answer.pointer(), lengths[4])
     };
-    let accepted = if enough { accepted_in_comparison(answer.given(), kept, later) } else { Vec::new() };
+    let accepted = if enough { accepted_in_comparison(answer.given()) } else { [false, false] };
+    let boards = vec![
+        Passed { words: kept.words, accepted: accepted[0], index: 1 },
+        Passed { words: later.words, accepted: accepted[1], index: 3 },
+    ];
     let buffers = vec![
         (answer, "answer"),
         (ki, "kept index table"),
@@ -919,17 +966,16 @@ fn call_compare<'a>(
         (li, "later index table"),
         (lb, "later ballot table"),
     ];
-    Some(Call { entry: format!("compare at main {number}"), given, expected: enough, buffers, accepted })
+    Some(Call { entry: format!("compare at main {number}"), given, expected: enough, buffers, boards })
 }
 
-/// The boards that were accepted by a comparison's answer, with the places of their index tables.
-fn accepted_in_comparison<'a>(answer: &[u32], kept: Board<'a>, later: Board<'a>) -> Vec<(&'a [u32], usize)> {
-    let (kept, later) = ((kept.words, 1), (later.words, 3));
+/// Whether the kept board and the later one were accepted, by a comparison's answer.
+fn accepted_in_comparison(answer: &[u32]) -> [bool; 2] {
     match answer[..3] {
-        [0, 0, _] => Vec::new(),
+        [0, 0, _] => [false, false],
         // 19 is given of a board that was accepted.
-        [0, _, number] if number != 19 => vec![kept],
-        _ => vec![kept, later],
+        [0, _, number] if number != 19 => [true, false],
+        _ => [true, true],
     }
 }
 

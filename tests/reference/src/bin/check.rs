@@ -89,10 +89,13 @@ fn main() {
     }
     vectors();
     header(&options);
-    stored_boards(&options);
+    let tables = stored_boards(&options);
     collision_boards();
     hidden_tracks();
     mistakes_are_found();
+    if tables > 0 {
+        stored_tables_find(&options);
+    }
     let with = if options.stand_in { Some(stand_in()) } else { library() };
     if options.stand_in {
         println!("library    STAND-IN: the reference is held against itself");
@@ -131,13 +134,23 @@ fn header(options: &Options) {
     }
 }
 
-fn stored_boards(options: &Options) {
+/// Checks the stored boards. Gives how many of them have tables.
+fn stored_boards(options: &Options) -> usize {
+    let mut tables = 0;
     for folder in &options.boards {
-        match check_folder(folder) {
-            Ok(count) => println!("stored     {count} boards print what is expected ({})", folder.display()),
+        match check_folder(folder, library()) {
+            Ok(stored) => {
+                let (boards, with_tables) = (stored.boards, stored.tables);
+                println!("stored     {boards} boards print what is expected ({})", folder.display());
+                if with_tables > 0 {
+                    println!("           {with_tables} of them leave the tables that are expected, in each entry");
+                }
+                tables += with_tables;
+            }
             Err(message) => fail(&message),
         }
     }
+    tables
 }
 
 fn collision_boards() {
@@ -204,6 +217,18 @@ fn mistakes_are_found() {
         MISTAKES.len() - CLOSED_MISTAKES,
         PROPERTIES.len()
     );
+}
+
+/// The stored tables, too, are to find the mistakes about who closed a ballot.
+fn stored_tables_find(options: &Options) {
+    for (mistake, what) in MISTAKES.iter().enumerate().skip(CLOSED_MISTAKES) {
+        MISTAKE.store(mistake, Ordering::Relaxed);
+        if options.boards.iter().all(|folder| check_folder(folder, None).is_ok()) {
+            fail(&format!("the stored tables do not see '{what}'"));
+        }
+    }
+    MISTAKE.store(0, Ordering::Relaxed);
+    println!("           and by the stored tables");
 }
 
 /// Counts the cases in which the stand-in's index table breaks each property.
