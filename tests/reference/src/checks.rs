@@ -423,7 +423,7 @@ fn turn_bit(case: &mut Case, turn: u64, random: &mut Random) {
 
 /// Audits a case with the reference and holds the answer against the making. Gives the number.
 pub fn check_known(case: &Case) -> Result<u32, String> {
-    check_known_with(case, INDEX_NEED + 5, BALLOTS_NEED + 4, &case.known)
+    check_known_with(case, INDEX_NEED + INDEX_ROW + 1, BALLOTS_NEED + BALLOT_ROW + 1, &case.known)
 }
 
 /// The same with tables for a full board, and with one word less of either or the index table that was
@@ -548,6 +548,18 @@ pub fn shown(case: &Case) -> [bool; WANTED.len()] {
     WANTED.map(|(_, shows)| shows(&ballots))
 }
 
+/// The main number of the cast or spoil under each main item; 0 where there is none.
+fn closed_mains(words: &[u32], index: &[u32], items: usize) -> Vec<u32> {
+    let rows: Vec<&[u32]> = index.chunks(INDEX_ROW).take(items).collect();
+    let mains = rows.iter().filter(|row| kind(words[row[column::PLACE] as usize]) == MAIN);
+    mains
+        .map(|row| match row[column::CLOSED_BY] {
+            NOT_CLOSED => 0,
+            closer => rows[closer as usize - 1][column::MAINS_BEFORE] + 1,
+        })
+        .collect()
+}
+
 /// Other hidden tracks and signatures never change what is reported of the main list.
 pub fn check_hidden_tracks(seed: u64) -> Result<(), String> {
     let random = &mut Random::new(seed);
@@ -559,7 +571,9 @@ pub fn check_hidden_tracks(seed: u64) -> Result<(), String> {
         let laid = plan.lay(sha256);
         let (mut index, mut ballots) = (vec![0; INDEX_NEED], vec![0; BALLOTS_NEED]);
         let report = audit(&laid.words, &laid.verdicts, &mut index, &mut ballots);
-        (report.number, report.mains, report.ballots, report.weight, report.end, ballots)
+        let items = if report.number == 0 { report.items as usize } else { 0 };
+        let closed = closed_mains(&laid.words, &index, items);
+        (report.number, report.mains, report.ballots, report.weight, report.end, ballots, closed)
     };
     let (with, without) = (run(&made.plan), run(&plan));
     if with.0 != 0 || with != without {
