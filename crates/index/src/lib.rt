@@ -77,6 +77,16 @@ pub fn entry(board: &[u32], index: &[u32], count: usize, k: usize) -> Known
     }
 }
 
+// The number of the parent of item number k of the first count. The board is not read.
+pub fn parent(board: &[u32], index: &[u32], count: usize, k: usize) -> usize
+    requires { ⌜ Kept (now board) (now index) count ⌝ }
+    requires { ⌜ (1 ≤ k) × (k ≤ count) ⌝ }
+    ensures { λ r. ⌜ r ≡ entry (before (now (board .entry)) count) k .parent ⌝ }
+{
+    let row = Limit::INDEX_ROW * (k - 1);
+    words::wide(index[row + Column::PARENT])
+}
+
 // The number of the cast or spoil under item number k of the first count: 0 for other items and open ballots.
 pub fn closer(board: &[u32], index: &[u32], count: usize, k: usize) -> usize
     requires { ⌜ Kept (now board) (now index) count ⌝ }

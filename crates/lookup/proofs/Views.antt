@@ -3,7 +3,7 @@ use Prim.Native.Nat.{ℕ, _-_, _≤_}
 use native.Mathlib.Nat.{add-zero}
 use mathlib.Core.Path.{_≡_, sym, ap, _∙_}
 use mathlib.Core.Logic.{_≢_}
-use mathlib.Core.Bool.{Bool, true, false, not, _&&_, Bool·beq}
+use mathlib.Core.Bool.{Bool, true, false, not, and-true, and-false, Bool·beq}
 use mathlib.Core.List.{List}
 use lib.ListN.{getD}
 use lib.Dec.{eqb}
@@ -34,21 +34,24 @@ from-known {board} {e} {c} is =
 pub is-known : {board : List ℕ} {e : Entry} {c : Known} → IsKnown board e c → IsKnown board (entryFrom board c) c
 is-known is = rw (from-known is) is
 
+-- a child of another parent
+pub child-other : (e : Entry) (parent : ℕ) (q : ℕ → Bool) → e .parent ≢ parent → false ≡ childOf parent q e
+child-other e parent q n = rw (ne-eqb (e .parent) parent n) (sym (and-false (q (code (e .item)))))
+
 -- ---- a test's answer of the view is that of the entry
 
 module _ {board : List ℕ} {e : Entry} {c : Known} (is : IsKnown board e c) where
   pub told-from : (p : Entry → Bool) {r : Bool} → r ≡ p (entryFrom board c) → r ≡ p e
   told-from p q = q ∙ ap p (from-known is)
 
-  pub told-child : (parent type : ℕ) {r : Bool} → r ≡ (eqb (c .item .head .code) type && eqb (c .parent) parent)
-      → r ≡ childOf parent (λ x. eqb x type) e
-  told-child parent type q = q ∙ rw (known-code is, known-parent is)
-
   pub told-left : (left : ℕ) {rest : ℕ} → rest ≡ (if eqb (c .item .head .kind) mainKind then left - 1 else left)
       → rest ≡ (if main e then left - 1 else left)
   told-left left q = q ∙ rw (known-main is)
 
   -- ---- the tests themselves
+
+  pub child-same : (parent type : ℕ) → e .parent ≡ parent → eqb (c .item .head .code) type ≡ childOf parent (λ x. eqb x type) e
+  child-same parent type q = rw (← known-code is, eq-eqb (e .parent) parent q) (sym (and-true (eqb (c .item .head .code) type)))
 
   pub addressed-other : (m : Bool) (address : List ℕ) → not (Bool·beq (eqb (c .item .head .kind) mainKind) m) ≡ true → false ≡ addressed m address e
   addressed-other m address q = rw (← known-main is, not-true (Bool·beq (eqb (c .item .head .kind) mainKind) m) q)

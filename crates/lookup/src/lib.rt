@@ -150,11 +150,16 @@ pub fn latest_session(
     0
 }
 
-// Whether the item is of a type and stands under a parent.
-fn is_child(e: Known, parent: usize, code: u32) -> bool
-    ensures { λ r. ⌜ r ≡ (eqb (e .item .head .code) code && eqb (e .parent) parent) ⌝ }
+// Whether item number k stands under a parent and is of a type. Its head is read only where the parent is that one.
+fn is_child(board: &[u32], index: &[u32], count: usize, k: usize, parent: usize, code: u32) -> bool
+    requires { ⌜ Kept (now board) (now index) count ⌝ }
+    requires { ⌜ (1 ≤ k) × (k ≤ count) ⌝ }
+    ensures { λ r. ⌜ r ≡ childOf parent (λ c. eqb c code) (entry (before (now (board .entry)) count) k) ⌝ }
 {
-    e.item.head.code == code && e.parent == parent
+    if index::parent(board, index, count, k) != parent {
+        return false;
+    }
+    index::entry(board, index, count, k).item.head.code == code
 }
 
 // The number from which on the children of a parent are sought: no item stands before its parent, and item numbers begin with 1.
@@ -174,8 +179,7 @@ pub fn has_child(board: &[u32], index: &[u32], count: usize, parent: usize, code
 {
     let mut child = first_child(parent);
     while child <= count {
-        let e = index::entry(board, index, count, child);
-        if is_child(e, parent, code) {
+        if is_child(board, index, count, child, parent, code) {
             return true;
         }
         child += 1;

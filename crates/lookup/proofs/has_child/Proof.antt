@@ -9,7 +9,6 @@ use Rattle.model.specs.History.{childOf}
 use Rattle.index.specs.Kept.{before}
 use Rattle.lookup.proofs.Steps.{from, any-stops, any-goes, any-ends}
 use Rattle.lookup.proofs.Children.{begin-some, begin-all}
-use Rattle.lookup.proofs.Views.{told-child}
 use Rattle.lookup.proofs.has_child.Statement.{statement}
 use Rattle.lookup.proofs.has_child.Tie as tie
 
@@ -30,18 +29,14 @@ loop-holds c =
     let f = c .first-child .ensures in
     (begin-some (s .args .parent) _ f, begin-all (s .pre) (s .args .parent) (λ x. eqb x (s .args .code)) _ f)
 
-entry-requires : tie.Need-entry-requires Inv-loop μ-loop
-entry-requires c κs = search needs
-
 is-child-requires : tie.Need-is-child-requires Inv-loop μ-loop
 is-child-requires c κs = search needs
 
 returns : tie.Need-returns Inv-loop μ-loop
 returns c =
-    let l = c .before .before .before .before in
+    let l = c .before .before .before in
     let v = l .loop .inv in
-    let e = c .before .before .entry in
-    sym (v .1 ∙ any-stops _ _ _ (l .loop .child) (v .0) (search needs) _ (told-child (e .ensures) _ _ (c .before .is-child .ensures)) (c .if1 .taken))
+    sym (v .1 ∙ any-stops _ _ _ (l .loop .child) (v .0) (search needs) _ (c .before .is-child .ensures) (c .if1 .taken))
 
 add-child : tie.Need-add-child Inv-loop μ-loop
 add-child c = search needs
@@ -51,10 +46,9 @@ loop-less c = search needs
 
 loop-again : tie.Need-loop-again Inv-loop μ-loop
 loop-again c =
-    let l = c .before .before .before .before in
+    let l = c .before .before .before in
     let v = l .loop .inv in
-    let e = c .before .before .entry in
-    (search needs, v .1 ∙ any-goes _ _ _ (l .loop .child) (v .0) (search needs) _ (told-child (e .ensures) _ _ (c .before .is-child .ensures)) (c .if1 .left))
+    (search needs, v .1 ∙ any-goes _ _ _ (l .loop .child) (v .0) (search needs) _ (c .before .is-child .ensures) (c .if1 .left))
 
 returns-2 : tie.Need-returns-2 Inv-loop μ-loop
 returns-2 c = let l = c .before in sym (l .loop .inv .1 ∙ any-ends _ _ _ (l .loop .child) (search needs))
@@ -67,7 +61,6 @@ has-child-spec =
     μ-loop
     first-child-requires
     loop-holds
-    entry-requires
     is-child-requires
     returns
     add-child
