@@ -1,7 +1,7 @@
 // The index table: a row of five words for each item that was passed. It is read by item number, grows by a row, and a cast or spoil is
 // written into the row of its ballot.
 ghost use mathlib.Core.Path.{_≡_};
-ghost use Prim.Native.Nat.{_+_, _≤_, _<_};
+ghost use Prim.Native.Nat.{_+_, _-_, _≤_, _<_};
 ghost use lib.ListN.{length};
 ghost use lib.Dec.{T};
 ghost use Rattle.model.specs.Audit.{itemLimit, indexNeed};
@@ -24,21 +24,21 @@ pub struct Known {
 
 // The columns of a row, which has Limit::INDEX_ROW words: the place of the item's head, its parent, its session, the main items before it,
 // and the cast or spoil under it.
-pub struct Column {}
+struct Column {}
 
 impl Column {
-    pub const PLACE: usize = 0;
+    const PLACE: usize = 0;
 
-    pub const PARENT: usize = 1;
+    const PARENT: usize = 1;
 
-    pub const SESSION: usize = 2;
+    const SESSION: usize = 2;
 
-    pub const MAINS: usize = 3;
+    const MAINS: usize = 3;
 
-    pub const CLOSER: usize = 4;
+    const CLOSER: usize = 4;
 
     // The word for no item, in the columns of the session and of the closer.
-    pub const NO_NUMBER: u32 = 4_294_967_295;
+    const NO_NUMBER: u32 = 4_294_967_295;
 }
 
 // An item number from its word in a row: 0 where there is none.
@@ -85,6 +85,16 @@ pub fn parent(board: &[u32], index: &[u32], count: usize, k: usize) -> usize
 {
     let row = Limit::INDEX_ROW * (k - 1);
     words::wide(index[row + Column::PARENT])
+}
+
+// How many main items stand before item number k of the first count.
+pub fn mains_before(board: &[u32], index: &[u32], count: usize, k: usize) -> usize
+    requires { ⌜ Kept (now board) (now index) count ⌝ }
+    requires { ⌜ (1 ≤ k) × (k ≤ count) ⌝ }
+    ensures { λ r. ⌜ r ≡ mainNumber (before (now (board .entry)) count) (k - 1) ⌝ }
+{
+    let row = Limit::INDEX_ROW * (k - 1);
+    words::wide(index[row + Column::MAINS])
 }
 
 // The number of the cast or spoil under item number k of the first count: 0 for other items and open ballots.

@@ -1,20 +1,21 @@
 -- One step of a search among the first n items of a board: it stops at item k, goes on to the next, or has passed them all. Of the test
 -- of item k the answer is given. Assumes nothing.
 use Prim.Native.Nat.{ℕ, zero, suc, _+_, _-_, _≤_, _<_}
-use native.Mathlib.Nat.{not-suc-le-zero}
+use native.Mathlib.Nat.{not-suc-le-zero, add-zero, sub-zero}
 use native.Mathlib.Numerals.{add-one}
 use native.Mathlib.Omega.{arith}
 use mathlib.Core.Path.{_≡_, refl, ap, _∙_}
 use mathlib.Core.Logic.{_≢_}
 use mathlib.Core.Bool.{Bool, true, false}
 use mathlib.Core.List.{List, [], _∷_, _++_}
-use lib.ListN.{length, take, drop, drop-of-length-le}
+use lib.ListN.{length, take, drop, length-take, drop-of-length-le}
 use lib.Seq.{drop-cons, take-suc, length-take-le, take-all}
 use lib.Dec.{eqb, eqb·suc-zero}
 use borrow.Author.Tests.{eq-eqb, ne-eqb}
-use Rattle.model.specs.Lists.{if_then_else_, any}
-use Rattle.model.specs.History.{History, Entry, absent, entry, main, first, firstFrom, last, lastFrom}
+use Rattle.model.specs.Lists.{if_then_else_, any, count}
+use Rattle.model.specs.History.{History, Entry, absent, entry, main, mainNumber, first, firstFrom, last, lastFrom}
 use Rattle.model.proofs.Tests.{by-test}
+use Rattle.model.proofs.Lists.{count-few}
 use Rattle.model.proofs.State.{first-snoc, last-snoc}
 use Rattle.model.proofs.Unchecked.{length-history}
 use Rattle.format.specs.Base.{base}
@@ -55,6 +56,24 @@ main-turn k (suc (suc m)) rest e es s a =
     by-test (main e)
     (λ q. let less : rest ≡ suc m = omega (arith, rw q at a) in rw (q, less, eqb·suc-zero m))
     (λ q. let same : rest ≡ suc (suc m) = rw q at a in rw (q, same, eqb·suc-zero (suc m)))
+
+-- behind the first j items, where fewer of them are main than are to be passed
+main-skip : (k left : ℕ) (es : History) (j : ℕ) → count main (take j es) < left
+    → mainFrom k left es ≡ mainFrom (k + j) (left - count main (take j es)) (drop j es)
+unfolding mainFrom count if_then_else_
+main-skip k left es zero l = rw (add-zero, sub-zero)
+main-skip k left [] (suc j) l = refl
+main-skip k left (e ∷ es) (suc j) l =
+    let next : suc k + j ≡ k + suc j = omega arith in
+    let passed = count main (take j es) in
+    by-test (main e)
+    (λ q. let fewer : suc passed < left = rw q at l in
+    let same : left - 1 - passed ≡ left - suc passed = omega arith in
+    rw (q, ← next, ← same)
+    (main-turn k left (left - 1) e es (omega arith) (rw q) ∙ rw (ne-eqb (left - 1) 0 (λ z. omega arith)) (main-skip (suc k) (left - 1) es j (omega arith))))
+    (λ q. let fewer : passed < left = rw q at l in
+    rw (q, ← next)
+    (main-turn k left left e es (omega arith) (rw q) ∙ rw (ne-eqb left 0 (λ z. omega arith)) (main-skip (suc k) left es j fewer)))
 
 module _ (board : List ℕ) (n : ℕ) where
   abbrev h : History
@@ -128,6 +147,19 @@ module _ (board : List ℕ) (n : ℕ) where
     pub main-goes : rest ≢ 0 → mainFrom k left (from k) ≡ mainFrom (k + 1) rest (from (k + 1))
     unfolding if_then_else_
     main-goes q = rw (from-k k s l, main-turn k left rest (entry h k) (from (k + 1)) some after, ne-eqb rest 0 q, add-one)
+
+  -- the items before number m have fewer main ones than m
+  module _ (m : ℕ) (some : 1 ≤ m) where
+    fewer : mainNumber h (m - 1) < m
+    fewer = omega (arith, count-few main (take (m - 1) h), length-take (m - 1) h)
+
+    pub main-left : 1 ≤ m - mainNumber h (m - 1)
+    main-left = omega (arith, fewer)
+
+    pub main-begins : mainFrom 1 m h ≡ mainFrom m (m - mainNumber h (m - 1)) (from m)
+    main-begins =
+        let here : 1 + (m - 1) ≡ m = omega arith in
+        main-skip 1 m h (m - 1) fewer ∙ ap (λ (k : ℕ). mainFrom k (m - mainNumber h (m - 1)) (from m)) here
 
   pub main-ends : (k left : ℕ) → n < k → mainFrom k left (from k) ≡ 0
   unfolding mainFrom

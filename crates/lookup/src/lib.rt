@@ -198,7 +198,7 @@ fn left_after(e: Known, left: usize) -> usize
     left
 }
 
-// The item number of a main number; 0 where there is none.
+// The item number of a main number; 0 where there is none. No item before that number can have it, so the search begins there.
 pub fn main_entry(board: &[u32], index: &[u32], count: usize, number: usize) -> usize
     requires { ⌜ Kept (now board) (now index) count ⌝ }
     ensures { λ r. ⌜ r ≡ mainEntry (before (now (board .entry)) count) number ⌝ }
@@ -206,8 +206,11 @@ pub fn main_entry(board: &[u32], index: &[u32], count: usize, number: usize) -> 
     if number == 0 {
         return 0;
     }
-    let mut left = number;
-    let mut k = 1;
+    if count < number {
+        return 0;
+    }
+    let mut left = number - index::mains_before(board, index, count, number);
+    let mut k = number;
     while k <= count {
         let e = index::entry(board, index, count, k);
         left = left_after(e, left);

@@ -15,7 +15,6 @@ use Rattle.model.specs.Types.{inSession}
 use Rattle.model.specs.History.{History, Entry, entry, itemNo, absent, main, mainNumber, typed, placeOf, history, entryOf, parentNumber, sessionNumber}
 use Rattle.model.specs.Counted.{Vote, voteOf, counted, without}
 use Rattle.model.specs.Audit.{ballotRow, itemLimit, ballotLimit}
-use Rattle.model.specs.Report.{mainsColumn, rowWord}
 use Rattle.model.specs.Sound.{next}
 use Rattle.model.proofs.Tests.{passes, is-true}
 use Rattle.model.proofs.Table.{main-code}
@@ -29,7 +28,6 @@ use Rattle.index.specs.declared.Known.{Known}
 use Rattle.index.specs.Kept.{before, itemAfter, Kept}
 use Rattle.index.specs.Known.{IsKnown, Passing}
 use Rattle.index.proofs.Counts.{hasWords, entry-words}
-use Rattle.index.proofs.Rows.{row-says}
 use Rattle.index.proofs.Reading.{known-item, known-word}
 use Rattle.state.specs.declared.State.{State}
 use Rattle.state.specs.Stands.{Stands}
@@ -44,23 +42,16 @@ mainNumber-suc : (h : History) (k : ℕ) → k < length h → T (main (getD h k 
 unfolding count
 mainNumber-suc h k l t = rw (take-suc h k absent l, count-append main (take k h) (getD h k absent ∷ []), is-true (main (getD h k absent)) t)
 
--- one more than the main items before item k, by its row of the index table
-pub number-is : {board index : List ℕ} {n : ℕ} → Kept board index n → (k : ℕ) → 1 ≤ k → k ≤ n → T (main (entry (before board n) k))
-    → rowWord index k mainsColumn + 1 ≡ mainNumber (before board n) k
+-- one more than the main items before item k
+pub number-is : (h : History) (k : ℕ) → 1 ≤ k → k ≤ length h → T (main (entry h k)) → mainNumber h (k - 1) + 1 ≡ mainNumber h k
 unfolding entry
-number-is kept zero s l t = absurd (omega arith)
-number-is {board} {index} {n} kept (suc k) s l t =
-    let same : suc k - 1 ≡ k = omega arith in
-    let word = row-says kept (suc k) s l .mains in
-    let more = mainNumber-suc (before board n) k (omega (arith, length-history base board n)) t in
-    rw (word, same) (sym more)
+number-is h zero s l t = absurd (omega arith)
+number-is h (suc k) s l t = let same : suc k - 1 ≡ k = omega arith in rw same (sym (mainNumber-suc h k l t))
 
-pub number-small : {board index : List ℕ} {n : ℕ} → Kept board index n → (k : ℕ) → 1 ≤ k → k ≤ n
-    → rowWord index k mainsColumn ≤ itemLimit
-number-small {board} {index} {n} kept k s l =
+pub number-small : {board index : List ℕ} {n : ℕ} → Kept board index n → (k : ℕ) → mainNumber (before board n) k ≤ itemLimit
+number-small {board} {index} {n} kept k =
     let h = before board n in
-    rw (row-says kept k s l .mains)
-    (omega (arith, count-take main h (k - 1), count-few main h, length-history base board n, kept .few))
+    omega (arith, count-take main h k, count-few main h, length-history base board n, kept .few)
 
 -- ---- one more item
 

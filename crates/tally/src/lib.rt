@@ -15,7 +15,6 @@ ghost use Rattle.tally.specs.Rows.{HoldsRows};
 ghost use Rattle.tally.specs.Tallied.{Tallied};
 use format::head::Head;
 use format::limit::Limit;
-use index::Column;
 use index::Known;
 use sha256::Hash;
 use state::State;
@@ -28,8 +27,7 @@ fn main_number(board: &[u32], index: &[u32], count: usize, k: usize) -> u32
     requires { ⌜ (1 ≤ k) × (k ≤ count) × (T (main (entry (before (now board) count) k))) ⌝ }
     ensures { λ r. ⌜ r ≡ mainNumber (before (now (board .entry)) count) k ⌝ }
 {
-    let row = Limit::INDEX_ROW * (k - 1);
-    index[row + Column::MAINS] + 1
+    (index::mains_before(board, index, count, k) + 1) as u32
 }
 
 // The ballot table with the item after the first ones, which passes. A cast drops its voter's row and puts its own last: the main number

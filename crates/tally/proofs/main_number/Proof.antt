@@ -1,32 +1,34 @@
 -- `main_number` meets its contract. Assumes nothing.
-use Rattle.tally.proofs.Casts.{number-small, number-is}
+use Prim.Native.Nat.{_-_, _≤_}
 use native.Mathlib.Omega.{arith}
 use borrow.Author.Needs.{needs}
+use Rattle.model.specs.Audit.{itemLimit}
+use Rattle.model.proofs.Unchecked.{length-history}
+use Rattle.format.specs.Base.{base}
+use Rattle.index.specs.Kept.{before}
+use Rattle.tally.proofs.Casts.{number-small, number-is}
 use Rattle.tally.proofs.main_number.Statement.{statement}
 use Rattle.tally.proofs.main_number.Tie as tie
 
-sub-row : tie.Need-sub-row
-sub-row c = search needs
+mains-before-requires : tie.Need-mains-before-requires
+mains-before-requires c κs = search needs
 
-mul-row : tie.Need-mul-row
-mul-row c = search needs
+small : (c : tie.After-mains-before) → c .mains-before .result ≤ itemLimit
+small c = let s = c .before .before .before in omega (arith, c .mains-before .ensures, number-small (s .pre .0) (s .args .k - 1))
 
 add-result : tie.Need-add-result
-add-result c = search needs
+add-result c = search (needs, small c)
 
-mul-result : tie.Need-mul-result
-mul-result c = search needs
-
-shared-slice-read-result : tie.Need-shared-slice-read-result
-shared-slice-read-result c = search needs
-
-add-result-2 : tie.Need-add-result-2
-add-result-2 c = let p = c .before .pre in omega (arith, number-small (p .0) (c .before .args .k) (p .1 .0) (p .1 .1))
+cast-result : tie.Need-cast-result
+cast-result c = search (needs, small c)
 
 returns : tie.Need-returns
-returns c = let p = c .before .pre in number-is (p .0) (c .before .args .k) (p .1 .0) (p .1 .1) (p .1 .2)
+returns c =
+    let s = c .before .before .before in
+    let p = s .pre in
+    let h = before (s .args .board .now) (s .args .count) in
+    rw (c .mains-before .ensures)
+    (number-is h (s .args .k) (p .1 .0) (omega (arith, p .1 .1, length-history base (s .args .board .now) (s .args .count))) (p .1 .2))
 
 pub main-number-spec : {M : Type 1} → statement M
-main-number-spec =
-    tie.close
-    (tie.spec sub-row mul-row add-result mul-result shared-slice-read-result add-result-2 returns)
+main-number-spec = tie.close (tie.spec mains-before-requires add-result cast-result returns)
