@@ -41,7 +41,7 @@ static uint32_t *read_words(const char *folder, const char *name, size_t *count)
 enum { BALLOT = 19, CAST = 20 };
 
 /* The row of item k, and its type, of an accepted board. */
-static const uint32_t *row_of(const uint32_t *index, uint32_t k) { return index + TIRFOLMA_ROW_WORDS * (k - 1); }
+static const uint32_t *row_of(const uint32_t *index, uint32_t k) { return index + TIRFOLMA_INDEX_ROW_WORDS * (k - 1); }
 
 static uint32_t type_of(const uint32_t *board, const uint32_t *index, uint32_t k) {
     return board[row_of(index, k)[TIRFOLMA_ROW_PLACE]] >> 16 & 0xfff;
@@ -51,7 +51,7 @@ static uint32_t type_of(const uint32_t *board, const uint32_t *index, uint32_t k
 static void print_closer(const uint32_t *board, const uint32_t *index, uint32_t k) {
     if (type_of(board, index, k) != BALLOT) return;
     uint32_t closer = row_of(index, k)[TIRFOLMA_ROW_CLOSER];
-    if (closer == UINT32_MAX)
+    if (closer == TIRFOLMA_NO_ITEM)
         printf("ballot %" PRIu32 ": open\n", k);
     else
         printf("ballot %" PRIu32 ": %s by item %" PRIu32 "\n", k, type_of(board, index, closer) == CAST ? "cast" : "spoiled", closer);
@@ -84,9 +84,11 @@ int main(int argc, char **argv) {
     printf("end address");
     for (int i = 0; i < 8; i++) printf(" %08" PRIx32, answer[TIRFOLMA_END + i]);
     printf("\n");
-    for (uint32_t i = 0; i < answer[TIRFOLMA_BALLOTS]; i++)
-        printf("main item %" PRIu32 ": voter %" PRIu32 ", weight %" PRIu32 "\n", ballots[3 * i], ballots[3 * i + 1],
-               ballots[3 * i + 2]);
+    for (uint32_t i = 0; i < answer[TIRFOLMA_BALLOTS]; i++) {
+        const uint32_t *row = ballots + TIRFOLMA_BALLOT_ROW_WORDS * i;
+        printf("main item %" PRIu32 ": voter %" PRIu32 ", weight %" PRIu32 "\n", row[TIRFOLMA_COUNTED_BALLOT],
+               row[TIRFOLMA_COUNTED_VOTER], row[TIRFOLMA_COUNTED_WEIGHT]);
+    }
     for (uint32_t k = 1; k <= answer[TIRFOLMA_ITEMS]; k++) print_closer(board, index, k);
     free(board);
     return 0;

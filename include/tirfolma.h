@@ -20,11 +20,16 @@ extern "C" {
 
 /* ---- audit */
 
-/* Words of the answer, of an index table for every board: five for each of 2048 items, and of a ballot table for every board: three for each
-   counted ballot, and no board has more than 408 of those. */
+/* Words of the answer. */
 #define TIRFOLMA_AUDIT_WORDS 14
-#define TIRFOLMA_INDEX_WORDS (5 * 2048)
-#define TIRFOLMA_BALLOT_WORDS (3 * 408)
+
+/* Words of an index table for every board: a row for each of 2048 items. */
+#define TIRFOLMA_INDEX_ROW_WORDS 5
+#define TIRFOLMA_INDEX_WORDS (TIRFOLMA_INDEX_ROW_WORDS * 2048)
+
+/* Words of a ballot table for every board: a row for each counted ballot, and no board has more than 408 of those. */
+#define TIRFOLMA_BALLOT_ROW_WORDS 3
+#define TIRFOLMA_BALLOT_WORDS (TIRFOLMA_BALLOT_ROW_WORDS * 408)
 
 /* Where the answer's words stand. */
 enum {
@@ -37,15 +42,24 @@ enum {
     TIRFOLMA_END = 6          /* eight words: the address of the last main item */
 };
 
-/* Where the words of a row of the index table stand, and how many they are. Row k, from 1 on, is that of item k: it begins at word
-   TIRFOLMA_ROW_WORDS * (k - 1). */
+/* Where the words of an index row stand. Row k, from 1 on, is that of item k: it begins at word TIRFOLMA_INDEX_ROW_WORDS * (k - 1). */
 enum {
     TIRFOLMA_ROW_PLACE = 0,   /* the place of the item's head, counted from 0 */
     TIRFOLMA_ROW_PARENT = 1,  /* the item number of its parent; its own for genesis */
-    TIRFOLMA_ROW_SESSION = 2, /* the item number of its session; 4294967295: it has none */
+    TIRFOLMA_ROW_SESSION = 2, /* the item number of its session, or TIRFOLMA_NO_ITEM */
     TIRFOLMA_ROW_MAINS = 3,   /* the main items before it */
-    TIRFOLMA_ROW_CLOSER = 4,  /* of a ballot, the item number of the cast or spoil under it; 4294967295: an open ballot, or another item */
-    TIRFOLMA_ROW_WORDS = 5
+    TIRFOLMA_ROW_CLOSER = 4   /* of a ballot, the item number of the cast or spoil under it; of an open ballot and of any other item
+                                 TIRFOLMA_NO_ITEM */
+};
+
+/* The word for no item, in an index row. */
+#define TIRFOLMA_NO_ITEM 4294967295
+
+/* Where the words of a ballot row stand. */
+enum {
+    TIRFOLMA_COUNTED_BALLOT = 0, /* the main number of the ballot */
+    TIRFOLMA_COUNTED_VOTER = 1,
+    TIRFOLMA_COUNTED_WEIGHT = 2
 };
 
 /* Audits a board with its verdict words.
@@ -54,8 +68,8 @@ enum {
    were. The tables:
      refusal 2, and 1 for more than 262144 words    every word as it was
      any other refusal                              every word 0
-     accepted, the index table                      for each item a row of five words, as above; then zeros
-     accepted, the ballot table                     for each counted ballot: main number of the ballot, voter, weight; then zeros
+     accepted, the index table                      a row for each item, as above; then zeros
+     accepted, the ballot table                     a row for each counted ballot, as above; then zeros
    An index table of fewer than 10240 words or a ballot table of fewer than 1224 is refused by 2.
 
    False: the answer has fewer than 14 words. No word of any buffer is written.
