@@ -1,5 +1,6 @@
 // A head word: its kind, its type code and its count of content words.
 ghost use mathlib.Core.Path.{_≡_};
+ghost use Rattle.model.specs.Words.{between};
 ghost use Rattle.format.specs.Layout.{headOf};
 
 pub struct Head {
@@ -67,4 +68,11 @@ impl Head {
             count: (word % 65536) as usize,
         }
     }
+}
+
+// Whether a type code is in a range, both ends counted.
+pub fn is_between(low: u32, high: u32, code: u32) -> bool
+    ensures { λ r. ⌜ r ≡ between low high code ⌝ }
+{
+    low <= code && code <= high
 }

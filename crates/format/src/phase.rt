@@ -1,7 +1,7 @@
 // The phase to which items of a type belong. Paper: "Item types", "Phases".
 ghost use mathlib.Core.Path.{_≡_};
-ghost use Rattle.model.specs.Words.{between};
 ghost use Rattle.format.specs.Phase.{phaseOf};
+use crate::head;
 use crate::head::Head;
 
 pub struct Phase {
@@ -25,22 +25,22 @@ impl Phase {
     pub fn of(code: u32) -> Self
         ensures { λ r. ⌜ r ≡ phaseOf code ⌝ }
     {
-        if is_between(Head::GENESIS, Head::ROUND, code) {
+        if head::is_between(Head::GENESIS, Head::ROUND, code) {
             return Phase {
                 number: Phase::CONFIG,
             };
         }
-        if is_between(Head::SESSION, Head::SPOIL, code) {
+        if head::is_between(Head::SESSION, Head::SPOIL, code) {
             return Phase {
                 number: Phase::VOTING,
             };
         }
-        if is_between(Head::INTENT, Head::CONFIRMATION, code) {
+        if head::is_between(Head::INTENT, Head::CONFIRMATION, code) {
             return Phase {
                 number: Phase::EXTRACTION,
             };
         }
-        if is_between(Head::TRACK, Head::SERVER_OPENING, code) {
+        if head::is_between(Head::TRACK, Head::SERVER_OPENING, code) {
             return Phase {
                 number: Phase::TRACK,
             };
@@ -49,11 +49,4 @@ impl Phase {
             number: Phase::NONE,
         }
     }
-}
-
-// Whether a number is in a range, both ends counted.
-fn is_between(low: u32, high: u32, n: u32) -> bool
-    ensures { λ r. ⌜ r ≡ between low high n ⌝ }
-{
-    low <= n && n <= high
 }

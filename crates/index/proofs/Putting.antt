@@ -15,7 +15,7 @@ use Rattle.model.specs.Item as model
 use Rattle.model.specs.Item.{code}
 use Rattle.model.specs.History.{History, Entry, main, mainNumber, parentNumber, sessionNumber, placeOf, history, entryOf, castOrSpoil}
 use Rattle.model.specs.Audit.{wordLimit, itemLimit, indexRow}
-use Rattle.model.specs.Report.{noNumber, numberWord, closerColumn, rowPlace, rowWords, indexRows, filled}
+use Rattle.model.specs.Report.{noNumber, numberWord, placeColumn, parentColumn, sessionColumn, mainsColumn, closerColumn, rowPlace, rowWords, indexRows, filled}
 use Rattle.model.specs.Sound.{Passed, next}
 use Rattle.model.proofs.Tests.{by-test, passes}
 use Rattle.model.proofs.Lists.{count-few}
@@ -173,6 +173,7 @@ module _ {board index : List ℕ} {n : ℕ} {c : Known} (p : Passing board index
   -- the five stores of `put`, and what it closes
   pub kept-next : (session mains : ℕ) → session ≡ numberWord (c .session) → mains ≡ mainNumber h n → (words : List ℕ)
       → let row = indexRow * n in
-      words ≡ closedBy c (n + 1) (set (set (set (set (set index (row + 0) (c .item .place)) (row + 1) (c .parent)) (row + 2) session) (row + 3) mains) (row + 4) noNumber)
-      → Kept board words (n + 1)
+      let placed = set index (row + placeColumn) (c .item .place) in
+      let linked = set (set placed (row + parentColumn) (c .parent)) (row + sessionColumn) session in
+      words ≡ closedBy c (n + 1) (set (set linked (row + mainsColumn) mains) (row + closerColumn) noNumber) → Kept board words (n + 1)
   kept-next session mains s e words q = rw (q, s) (simp (towards-suc, add-zero) (kept-row mains e))

@@ -9,10 +9,10 @@ use Rattle.model.specs.Lists.{if_then_else_}
 use Rattle.model.specs.Item.{itemLength}
 use Rattle.model.specs.History.{Entry, entry, closer}
 use Rattle.model.specs.Audit.{itemLimit}
-use Rattle.model.specs.Report.{noNumber, numberWord, placeColumn, parentColumn, sessionColumn, closerColumn, rowWord, SaysOf}
+use Rattle.model.specs.Report.{noNumber, numberWord, placeColumn, parentColumn, sessionColumn, closerColumn, rowWord}
 use Rattle.model.proofs.Closers.{closer-bound}
 use Rattle.model.proofs.Unchecked.{length-history}
-use Rattle.model.proofs.Rows.{filled-row}
+use Rattle.model.proofs.Rows.{SaysOf, index-says}
 use Rattle.format.specs.declared.item.Item.{Item}
 use Rattle.format.specs.Base.{base}
 use Rattle.format.specs.Layout.{itemOf}
@@ -22,7 +22,7 @@ use Rattle.index.specs.Known.{IsKnown}
 use Rattle.index.proofs.Items.{entry-item, entry-session-bound, item-within}
 
 -- a word gives its item number back
-pub number-back : (n : ℕ) → n ≤ itemLimit → numberIn (numberWord n) ≡ n
+number-back : (n : ℕ) → n ≤ itemLimit → numberIn (numberWord n) ≡ n
 unfolding numberWord numberIn if_then_else_
 number-back zero l = refl
 number-back (suc n) l = rw (ne-eqb (suc n) 0 (λ q. omega arith), ne-eqb (suc n) noNumber (λ q. omega arith))
@@ -36,7 +36,7 @@ module _ {board index : List ℕ} {n : ℕ} (kept : Kept board index n) where
     pub row-says : SaysOf index (before board n) k
     row-says =
         subst (λ (words : List ℕ). SaysOf words (before board n) k) (sym (kept .rows))
-        (filled-row (length index) (before board n) k some (omega (arith, length-history base board n)))
+        (index-says (length index) (before board n) k some (omega (arith, length-history base board n)))
 
     -- what `closer` makes of it
     pub row-closer : numberIn (rowWord index k closerColumn) ≡ closer (before board n) k

@@ -4,12 +4,13 @@ ghost use mathlib.Core.Path.{_≡_};
 ghost use Prim.Native.Nat.{_+_, _-_, _≤_, _<_};
 ghost use lib.ListN.{length};
 ghost use lib.Dec.{T};
-ghost use Rattle.model.specs.Audit.{itemLimit, indexNeed};
+ghost use Rattle.model.specs.Audit.{itemLimit, indexRow, indexNeed};
 ghost use Rattle.model.specs.History.{entry, mainNumber, castOrSpoil, closer};
-ghost use Rattle.model.specs.Report.{numberWord};
+ghost use Rattle.model.specs.Report.{numberWord, rowWord};
 ghost use Rattle.index.specs.Kept.{before, Kept};
 ghost use Rattle.index.specs.Known.{IsKnown, Passing};
 ghost use Rattle.index.specs.Rows.{numberIn, closedBy};
+use format::head;
 use format::head::Head;
 use format::item::Item;
 use format::limit::Limit;
@@ -62,18 +63,26 @@ fn number_word(number: usize) -> u32
     number as u32
 }
 
+// The word at a column of the row of item number k.
+fn word(index: &[u32], k: usize, column: usize) -> u32
+    requires { ⌜ (1 ≤ k) × (k ≤ itemLimit) × (column < indexRow) × (indexNeed ≤ length (now index)) ⌝ }
+    ensures { λ r. ⌜ r ≡ rowWord (now (index .entry)) k column ⌝ }
+{
+    let row = Limit::INDEX_ROW * (k - 1);
+    index[row + column]
+}
+
 // Item number k of the first count.
 pub fn entry(board: &[u32], index: &[u32], count: usize, k: usize) -> Known
     requires { ⌜ Kept (now board) (now index) count ⌝ }
     requires { ⌜ (1 ≤ k) × (k ≤ count) ⌝ }
     ensures { λ r. ⌜ IsKnown (now (board .entry)) (entry (before (now (board .entry)) count) k) r ⌝ }
 {
-    let row = Limit::INDEX_ROW * (k - 1);
-    let item = Item::at(board, words::wide(index[row + Column::PLACE]));
+    let item = Item::at(board, words::wide(word(index, k, Column::PLACE)));
     Known {
         item,
-        parent: words::wide(index[row + Column::PARENT]),
-        session: number_in(index[row + Column::SESSION]),
+        parent: words::wide(word(index, k, Column::PARENT)),
+        session: number_in(word(index, k, Column::SESSION)),
     }
 }
 
@@ -83,8 +92,7 @@ pub fn parent(board: &[u32], index: &[u32], count: usize, k: usize) -> usize
     requires { ⌜ (1 ≤ k) × (k ≤ count) ⌝ }
     ensures { λ r. ⌜ r ≡ entry (before (now (board .entry)) count) k .parent ⌝ }
 {
-    let row = Limit::INDEX_ROW * (k - 1);
-    words::wide(index[row + Column::PARENT])
+    words::wide(word(index, k, Column::PARENT))
 }
 
 // How many main items stand before item number k of the first count.
@@ -93,8 +101,7 @@ pub fn mains_before(board: &[u32], index: &[u32], count: usize, k: usize) -> usi
     requires { ⌜ (1 ≤ k) × (k ≤ count) ⌝ }
     ensures { λ r. ⌜ r ≡ mainNumber (before (now (board .entry)) count) (k - 1) ⌝ }
 {
-    let row = Limit::INDEX_ROW * (k - 1);
-    words::wide(index[row + Column::MAINS])
+    words::wide(word(index, k, Column::MAINS))
 }
 
 // The number of the cast or spoil under item number k of the first count: 0 for other items and open ballots.
@@ -103,24 +110,16 @@ pub fn closer(board: &[u32], index: &[u32], count: usize, k: usize) -> usize
     requires { ⌜ (1 ≤ k) × (k ≤ count) ⌝ }
     ensures { λ r. ⌜ r ≡ closer (before (now (board .entry)) count) k ⌝ }
 {
-    let row = Limit::INDEX_ROW * (k - 1);
-    number_in(index[row + Column::CLOSER])
-}
-
-// Whether items of a type close a ballot: casts and spoils.
-pub fn is_closing(code: u32) -> bool
-    ensures { λ r. ⌜ r ≡ castOrSpoil code ⌝ }
-{
-    Head::CAST <= code && code <= Head::SPOIL
+    number_in(word(index, k, Column::CLOSER))
 }
 
 // Writes a cast or spoil, the item after the first count, into the row of its ballot.
-fn close(index: &mut [u32], count: usize, c: Known)
+fn put_closer(index: &mut [u32], count: usize, c: Known)
     requires { ⌜ (count < itemLimit) × (indexNeed ≤ length (now index)) ⌝ }
     requires { ⌜ (T (castOrSpoil (c .item .head .code)) → (1 ≤ c .parent) × (c .parent ≤ itemLimit)) ⌝ }
     ensures { λ _. ⌜ now (index .exit) ≡ closedBy c (count + 1) (now (index .entry)) ⌝ }
 {
-    if !is_closing(c.item.head.code) {
+    if !head::is_between(Head::CAST, Head::SPOIL, c.item.head.code) {
         return;
     }
     let row = Limit::INDEX_ROW * (c.parent - 1);
@@ -138,5 +137,5 @@ pub fn put(board: &[u32], index: &mut [u32], count: usize, c: Known, mains: usiz
     index[row + Column::SESSION] = number_word(c.session);
     index[row + Column::MAINS] = mains as u32;
     index[row + Column::CLOSER] = Column::NO_NUMBER;
-    close(index, count, c);
+    put_closer(index, count, c);
 }

@@ -2,7 +2,6 @@
 // item, a main item by its main number. Each reads the board through the index table; the searches for a parent and for a session pass
 // the items of one bucket alone, by their chain tables.
 ghost use mathlib.Core.Path.{_≡_};
-ghost use mathlib.Core.Bool.{_&&_};
 ghost use Prim.Native.Nat.{_+_, _-_, _≤_};
 ghost use lib.ListN.{length};
 ghost use lib.Dec.{eqb};

@@ -75,7 +75,7 @@ closers-differ h j k n e =
 
 module _ {f : Format} {ws vs : List ℕ} {h : History} (b : Passed f ws vs h) where
   -- a cast or spoil stands under a ballot
-  pub under-ballot : (k c : ℕ) → 1 ≤ c → c ≤ length h → T (closes k (entry h c)) → T (typed ballotType (entry h k))
+  under-ballot : (k c : ℕ) → 1 ≤ c → c ≤ length h → T (closes k (entry h c)) → T (typed ballotType (entry h k))
   unfolding parentType table
   under-ballot k c o l t =
       let (kind, up) = closes-parts k (entry h c) t in
@@ -112,14 +112,14 @@ module _ (h : History) (e : Entry) where
   longer = h ++ (e ∷ [])
 
   -- an item that it does not close
-  pub closer-kept : (k : ℕ) → k ≤ length h → closes k e ≡ false → closer longer k ≡ closer h k
+  closer-kept : (k : ℕ) → k ≤ length h → closes k e ≡ false → closer longer k ≡ closer h k
   unfolding closer if_then_else_
   closer-kept k l q =
       rw (entry-append h (e ∷ []) k l, first-snoc (closes k) h e, q)
       (by-test (eqb (first (closes k) h) 0) (λ s. rw (eqb-true (first (closes k) h) 0 s)) (λ s. rw s))
 
   -- an item that something closed
-  pub closer-used : (k : ℕ) → k ≤ length h → closer h k ≢ 0 → closer longer k ≡ closer h k
+  closer-used : (k : ℕ) → k ≤ length h → closer h k ≢ 0 → closer longer k ≡ closer h k
   unfolding closer if_then_else_
   closer-used k l n =
       let ballot = eq-eqb (code (itemNo h k)) ballotType (closer-closes h k n .0) in

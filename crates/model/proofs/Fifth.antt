@@ -1,5 +1,5 @@
 -- The fifth word of the rows of an index table that is filled: who closed a ballot. Paper: request (vii). Assumes nothing.
-use Prim.Native.Nat.{ℕ, _≤_}
+use Prim.Native.Nat.{ℕ, suc, _-_, _*_, _≤_}
 use native.Mathlib.Omega.{arith}
 use mathlib.Core.Path.{_≡_, sym, ap, _∙_}
 use mathlib.Core.Logic.{_≢_}
@@ -7,19 +7,20 @@ use mathlib.Core.List.{List}
 use lib.ListN.{length}
 use lib.Dec.{T, eqb}
 use borrow.Author.Tests.{eqb-true, eqb-false}
+use Rattle.model.specs.Lists.{part}
 use Rattle.model.specs.Codes.{ballotType}
 use Rattle.model.specs.Format.{Format}
 use Rattle.model.specs.Item.{code}
-use Rattle.model.specs.History.{History, entry, itemNo, castOrSpoil, closer}
-use Rattle.model.specs.Audit.{accepted, audit, itemLimit}
-use Rattle.model.specs.Report.{closerColumn, rowWord, noNumber, numberWord, tableAfter, indexAfter, SaysOf}
+use Rattle.model.specs.History.{History, entry, itemNo, mainNumber, castOrSpoil, closer}
+use Rattle.model.specs.Audit.{accepted, audit, itemLimit, indexRow}
+use Rattle.model.specs.Report.{closerColumn, rowWord, noNumber, numberWord, rowWords, indexRowOf, tableAfter, indexAfter}
 use Rattle.model.specs.Sound.{Passed}
 use Rattle.model.proofs.Tests.{by-test, facts}
 use Rattle.model.proofs.Numbers.{entry-inside}
 use Rattle.model.proofs.Entries.{fine-at, orderly}
 use Rattle.model.proofs.Closers.{closer-other, closer-closes, closers-differ, closer-of}
 use Rattle.model.proofs.Tables.{number-some, number-none, number-used}
-use Rattle.model.proofs.Rows.{filled-row}
+use Rattle.model.proofs.Rows.{index-row, SaysOf, index-says}
 
 -- each row of a table says of its item what the rules give
 abbrev Says : List ℕ → History → Type 0
@@ -29,7 +30,15 @@ Says table h = (k : ℕ) → 1 ≤ k → k ≤ length h → SaysOf table h k
 pub accepted-says : (f : Format) (ws vs index ballots : List ℕ) (h : History) → audit f ws vs (length index) (length ballots) ≡ accepted h
     → Says (indexAfter (audit f ws vs (length index) (length ballots)) index) h
 unfolding tableAfter
-accepted-says f ws vs index ballots h a k one all = rw a (filled-row (length index) h k one all)
+accepted-says f ws vs index ballots h a k one all = rw a (index-says (length index) h k one all)
+
+-- word for word
+pub accepted-row : (f : Format) (ws vs index ballots : List ℕ) (h : History) → let o = audit f ws vs (length index) (length ballots) in
+    o ≡ accepted h → (k : ℕ) → 1 ≤ k → k ≤ length h → part (indexRow * (k - 1)) indexRow (indexAfter o index) ≡ rowWords (entry h k) (mainNumber h (k - 1)) (closer h k)
+unfolding tableAfter indexRowOf
+accepted-row f ws vs index ballots h a k one all =
+    let next : suc (k - 1) ≡ k = omega arith in
+    rw a (index-row (length index) h k one all ∙ ap (λ (n : ℕ). rowWords (entry h k) (mainNumber h (k - 1)) (closer h n)) next)
 
 module _ {table : List ℕ} {h : History} (says : Says table h) where
   abbrev fifth : ℕ → ℕ

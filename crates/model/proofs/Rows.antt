@@ -1,23 +1,25 @@
 -- The rows of both tables: a counted ballot's row is that of the last cast of its voter, each voter with a cast has one, and index row k says
 -- what is known of item k. Paper: "Counted ballots", "Index rows". Assumes nothing.
-use Prim.Native.Nat.{ℕ, zero, suc, _-_, _≤_, _<_}
+use Prim.Native.Nat.{ℕ, zero, suc, _+_, _-_, _*_, _≤_, _<_}
+use native.Mathlib.Nat.{zero-add}
 use native.Mathlib.Omega.{arith}
 use native.Mathlib.Decide.{decLe}
 use mathlib.Core.Path.{_≡_, refl, sym, ap, _∙_}
 use mathlib.Core.Logic.{by-cases}
 use mathlib.Core.Bool.{Bool, true, false}
-use mathlib.Core.List.{List, [], _∷_, map}
-use lib.ListN.{length, drop, length-drop, List·getD-map}
+use mathlib.Core.List.{List, [], _∷_, _++_, map}
+use lib.ListN.{length, getD, drop, replicate, length-drop, List·getD-map}
 use lib.Dec.{T, eqb, lit<}
 use borrow.Author.Tests.{eq-eqb, eqb-true}
-use Rattle.model.specs.Lists.{any, keep, latest, has}
+use Rattle.model.specs.Lists.{part, any, keep, latest, has}
 use Rattle.model.specs.Codes.{castType}
 use Rattle.model.specs.Format.{Format}
 use Rattle.model.specs.Item.{code}
 use Rattle.model.specs.Types.{inSession}
-use Rattle.model.specs.History.{History, Entry, absent, entry, itemNo, typed, main, mainItem, mainItems, mainNumber}
+use Rattle.model.specs.History.{History, Entry, absent, entry, itemNo, typed, main, mainItem, mainItems, mainNumber, closer}
 use Rattle.model.specs.Counted.{Vote, voteOf, votesIn, sameVoter, counted, voters, LastCast}
-use Rattle.model.specs.Report.{placeColumn, parentColumn, sessionColumn, mainsColumn, closerColumn, rowPlace, rowWord, indexRowOf, indexRows, filled, SaysOf}
+use Rattle.model.specs.Audit.{indexRow}
+use Rattle.model.specs.Report.{placeColumn, parentColumn, sessionColumn, mainsColumn, closerColumn, rowWord, numberWord, indexRowOf, indexRows, filled}
 use Rattle.model.specs.Sound.{Passed}
 use Rattle.model.proofs.Tests.{by-test, passes, or-left, or-right}
 use Rattle.model.proofs.Lists.{Every, any-of-map, turns, map-keep}
@@ -104,31 +106,46 @@ module _ (h : History) where
       rw (any-of-map (eqb v) (λ x. x .voter) (latest sameVoter (votesIn h h)), voters-latest v (votesIn h h))
       (cast-among (λ x. eqb v (x .voter)) 0 h refl c one all cast (passes (eq-eqb v v refl)))
 
--- ---- index rows
+-- ---- index rows, in a table with more words behind them
 
-pub index-row : (h : History) (k : ℕ) → 1 ≤ k → k ≤ length h → SaysOf (indexRows h 0 h) h k
-unfolding entry indexRowOf
-index-row h zero one all = absurd (omega arith)
-index-row h (suc k) one all =
+row-from : (rest : List ℕ) (h : History) (j : ℕ) (es : List Entry) (i : ℕ) → i < length es
+    → part (indexRow * i) indexRow (indexRows h j es ++ rest) ≡ indexRowOf h (j + i) (getD es i absent)
+unfolding indexRows indexRowOf part
+row-from rest h j [] i l = absurd (omega arith)
+row-from rest h j (e ∷ es) zero l = let same : j + 0 ≡ j = omega arith in rw same
+row-from rest h j (e ∷ es) (suc i) l =
+    let place : indexRow * suc i ≡ suc (suc (suc (suc (suc (indexRow * i))))) = omega arith in
+    let before : j + suc i ≡ suc j + i = omega arith in
+    rw (place, before) (row-from rest h (suc j) es i (omega arith))
+
+-- row k is that of item k
+pub index-row : (n : ℕ) (h : History) (k : ℕ) → 1 ≤ k → k ≤ length h
+    → part (indexRow * (k - 1)) indexRow (filled n (indexRows h 0 h)) ≡ indexRowOf h (k - 1) (entry h k)
+unfolding entry filled
+index-row n h zero one all = absurd (omega arith)
+index-row n h (suc k) one all =
     let before : suc k - 1 ≡ k = omega arith in
-    record {
-      place = rw before (getD-indexRows h k placeColumn all (lit< tt));
-      parent = rw before (getD-indexRows h k parentColumn all (lit< tt));
-      session = rw before (getD-indexRows h k sessionColumn all (lit< tt));
-      mains = rw before (getD-indexRows h k mainsColumn all (lit< tt));
-      closer = rw before (getD-indexRows h k closerColumn all (lit< tt));
-    }
+    rw before (rw zero-add at (row-from (replicate (n - length (indexRows h 0 h)) 0) h 0 h k all))
 
--- so does a table that is filled with the rows
-pub filled-row : (n : ℕ) (h : History) (k : ℕ) → 1 ≤ k → k ≤ length h → SaysOf (filled n (indexRows h 0 h)) h k
-filled-row n h k one all =
-    let row = index-row h k one all in
-    let same : (c : ℕ) → rowWord (filled n (indexRows h 0 h)) k c ≡ rowWord (indexRows h 0 h) k c =
-    λ c. getD-filled n (indexRows h 0 h) (rowPlace k c) in
+-- column by column: what row k of a table says of item k of h
+pub record SaysOf (table : List ℕ) (h : History) (k : ℕ) : Type 0 where
+  pub place : rowWord table k placeColumn ≡ entry h k .place
+  pub parent : rowWord table k parentColumn ≡ entry h k .parent
+  pub session : rowWord table k sessionColumn ≡ numberWord (entry h k .session)
+  pub mains : rowWord table k mainsColumn ≡ mainNumber h (k - 1)
+  pub closer : rowWord table k closerColumn ≡ numberWord (closer h k)
+
+pub index-says : (n : ℕ) (h : History) (k : ℕ) → 1 ≤ k → k ≤ length h → SaysOf (filled n (indexRows h 0 h)) h k
+unfolding entry indexRowOf
+index-says n h zero one all = absurd (omega arith)
+index-says n h (suc k) one all =
+    let before : suc k - 1 ≡ k = omega arith in
+    let column : (c : ℕ) → c < indexRow → getD (filled n (indexRows h 0 h)) (indexRow * k + c) 0 ≡ getD (indexRowOf h k (getD h k absent)) c 0 =
+    λ c l. getD-filled n (indexRows h 0 h) (indexRow * k + c) ∙ getD-indexRows h k c all l in
     record {
-      place = same placeColumn ∙ row .place;
-      parent = same parentColumn ∙ row .parent;
-      session = same sessionColumn ∙ row .session;
-      mains = same mainsColumn ∙ row .mains;
-      closer = same closerColumn ∙ row .closer;
+      place = rw before (column placeColumn (lit< tt));
+      parent = rw before (column parentColumn (lit< tt));
+      session = rw before (column sessionColumn (lit< tt));
+      mains = rw before (column mainsColumn (lit< tt));
+      closer = rw before (column closerColumn (lit< tt));
     }

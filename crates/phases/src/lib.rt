@@ -1,6 +1,5 @@
 // Checks 11 and 12: what may stand when, and what may stand only once. Each is equal to its definition in the model.
 ghost use mathlib.Core.Path.{_≡_};
-ghost use Rattle.model.specs.Words.{between};
 ghost use Rattle.model.specs.Phase.{phaseOk};
 ghost use Rattle.model.specs.Only.{onlyOk};
 ghost use Rattle.index.specs.Kept.{before, itemAfter};
@@ -44,11 +43,4 @@ pub fn only_ok(board: &[u32], index: &[u32], s: State, c: Known) -> bool
         return false;
     }
     only::under_ballot_ok(board, index, s, c)
-}
-
-// Whether a code is in a range, both ends counted.
-fn is_between(low: u32, high: u32, code: u32) -> bool
-    ensures { λ r. ⌜ r ≡ between low high code ⌝ }
-{
-    low <= code && code <= high
 }

@@ -5,6 +5,7 @@ ghost use Rattle.model.specs.Words.{between};
 ghost use Rattle.model.specs.Only.{onBoardOk, underParentOk, underBallotOk};
 ghost use Rattle.index.specs.Kept.{before, itemAfter};
 ghost use Rattle.state.specs.Stands.{AtItem};
+use format::head;
 use format::head::Head;
 use index::Known;
 use state::State;
@@ -41,7 +42,7 @@ pub fn under_ballot_ok(board: &[u32], index: &[u32], s: State, c: Known) -> bool
     requires { ⌜ AtItem (now board) (now index) s c ⌝ }
     ensures { λ r. ⌜ r ≡ underBallotOk (before (now (board .entry)) (s .items)) (itemAfter (now (board .entry)) (s .items)) ⌝ }
 {
-    if !index::is_closing(c.item.head.code) {
+    if !head::is_between(Head::CAST, Head::SPOIL, c.item.head.code) {
         return true;
     }
     if c.parent == 0 {
@@ -54,11 +55,11 @@ pub fn under_ballot_ok(board: &[u32], index: &[u32], s: State, c: Known) -> bool
 fn is_single(code: u32) -> bool
     ensures { λ r. ⌜ r ≡ (between 18 19 code || between 33 34 code || between 48 51 code) ⌝ }
 {
-    if crate::is_between(Head::SERVER_COMMITMENT, Head::BALLOT, code) {
+    if head::is_between(Head::SERVER_COMMITMENT, Head::BALLOT, code) {
         return true;
     }
-    if crate::is_between(Head::EXTRACTION, Head::CONFIRMATION, code) {
+    if head::is_between(Head::EXTRACTION, Head::CONFIRMATION, code) {
         return true;
     }
-    crate::is_between(Head::TRACK, Head::SERVER_OPENING, code)
+    head::is_between(Head::TRACK, Head::SERVER_OPENING, code)
 }

@@ -6,6 +6,7 @@ ghost use Rattle.index.specs.Kept.{before, itemAfter, Kept};
 ghost use Rattle.lookup.specs.Buckets.{sessionChain};
 ghost use Rattle.state.specs.Stands.{AtItem};
 ghost use Rattle.phases.specs.Session.{IsSession};
+use format::head;
 use format::head::Head;
 use format::phase::Phase;
 use index::Known;
@@ -54,7 +55,7 @@ pub fn latest_ok(board: &[u32], index: &[u32], sessions: &[u32], s: State, c: Kn
     requires { ⌜ (AtItem (now board) (now index) s c) × (now sessions ≡ sessionChain (now board) (s .items)) ⌝ }
     ensures { λ r. ⌜ r ≡ latestOk (before (now (board .entry)) (s .items)) (itemAfter (now (board .entry)) (s .items)) ⌝ }
 {
-    if !crate::is_between(Head::VOTER_COMMITMENT, Head::SPOIL, c.item.head.code) {
+    if !head::is_between(Head::VOTER_COMMITMENT, Head::SPOIL, c.item.head.code) {
         return true;
     }
     let voter = voter_of(board, index, s.items, c.session);

@@ -12,7 +12,7 @@ use Rattle.model.specs.Words.{kindOf, codeOf, countOf, sameWords, pair, closing
 use Rattle.model.specs.Format.{Format, secp256r1, keySize}
 use Rattle.model.specs.Item.{Item, itemLength, itemAt, hashed, wordsOf}
 use Rattle.model.specs.Types.{rowOf, rowIn, table, fits}
-use Rattle.model.specs.History.{History, main, entry, firstFrom, lastFrom, mainItem, endAfter, endAddress, parentNumber, sessionNumber, entryOf, placeOf, history}
+use Rattle.model.specs.History.{History, main, entry, firstFrom, lastFrom, mainItem, endAfter, endAddress, parentNumber, sessionNumber, entryOf, closer, placeOf, history}
 use Rattle.model.specs.Counted.{Vote, voteOf, counted, contents, totalWeight}
 use Rattle.model.specs.Links.{addressOk, previousOk, parentOk, timeOk}
 use Rattle.model.specs.Phase.{rounds, isOpen, extractionOk, openOk, standingOk, latestOk, intentOk, phaseOk}
@@ -20,7 +20,7 @@ use Rattle.model.specs.Only.{onBoardOk, underParentOk, underBallotOk, onlyOk}
 use Rattle.model.specs.Content.{contestsOk, mayVote, cryptogramsOk, contestOk, thresholdOk, authorizerOk, roundOk, sessionOk, commitmentOk, ballotOk, fingerprintOk, trusteesOk, contentOk}
 use Rattle.model.specs.Keys.{opening, keyOf, goodVerdict, verdictOk, keyOk, signatureOk}
 use Rattle.model.specs.Audit.{Outcome, unread, refused, accepted, firstUnmet, checks, faultIn, closing, judged, wordAt, items, audit, indexNeed, ballotNeed}
-use Rattle.model.specs.Report.{reportOf, ballotRows}
+use Rattle.model.specs.Report.{reportOf, numberWord, indexRowOf, indexRows, ballotRows}
 use Rattle.model.specs.Sound.{Sound}
 use Rattle.model.specs.Ancestry.{upTo, ancestry}
 use Rattle.model.specs.Program.{digits, spaced, acceptedLine, rowLines, textOf}
@@ -164,6 +164,34 @@ is-reported = report-by past (length-history toy board 21) mains votes toy end
 pub ballot-row : ballotRows (counted (history toy board 21)) ≡ 13 ∷ 9 ∷ 5 ∷ []
 unfolding ballotRows
 ballot-row = ap ballotRows votes
+
+-- the index table, a row for each item: place, parent, session, main items before it, what closed it. Item 12 spoils the ballot 9, and
+-- item 18 casts the ballot 17
+pub index-table : indexRows (history toy board 21) 0 (history toy board 21)
+    ≡ 0 ∷ 1 ∷ 4294967295 ∷ 0 ∷ 4294967295
+    ∷ 60 ∷ 1 ∷ 4294967295 ∷ 1 ∷ 4294967295
+    ∷ 104 ∷ 2 ∷ 4294967295 ∷ 2 ∷ 4294967295
+    ∷ 157 ∷ 3 ∷ 4294967295 ∷ 3 ∷ 4294967295
+    ∷ 209 ∷ 4 ∷ 4294967295 ∷ 4 ∷ 4294967295
+    ∷ 258 ∷ 5 ∷ 6 ∷ 5 ∷ 4294967295
+    ∷ 320 ∷ 6 ∷ 6 ∷ 6 ∷ 4294967295
+    ∷ 372 ∷ 7 ∷ 6 ∷ 7 ∷ 4294967295
+    ∷ 424 ∷ 8 ∷ 6 ∷ 8 ∷ 12
+    ∷ 485 ∷ 9 ∷ 6 ∷ 9 ∷ 4294967295
+    ∷ 528 ∷ 10 ∷ 6 ∷ 9 ∷ 4294967295
+    ∷ 579 ∷ 9 ∷ 6 ∷ 9 ∷ 4294967295
+    ∷ 622 ∷ 11 ∷ 6 ∷ 10 ∷ 4294967295
+    ∷ 666 ∷ 13 ∷ 6 ∷ 10 ∷ 4294967295
+    ∷ 710 ∷ 6 ∷ 6 ∷ 10 ∷ 4294967295
+    ∷ 762 ∷ 15 ∷ 6 ∷ 11 ∷ 4294967295
+    ∷ 814 ∷ 16 ∷ 6 ∷ 12 ∷ 18
+    ∷ 875 ∷ 17 ∷ 6 ∷ 13 ∷ 4294967295
+    ∷ 918 ∷ 5 ∷ 4294967295 ∷ 14 ∷ 4294967295
+    ∷ 961 ∷ 19 ∷ 4294967295 ∷ 15 ∷ 4294967295
+    ∷ 1012 ∷ 20 ∷ 4294967295 ∷ 16 ∷ 4294967295
+    ∷ []
+unfolding election wordsIn wordsOf hashed if_then_else_ part count codeOf countOf kindOf sameWords itemLength itemAt entry firstFrom parentNumber sessionNumber entryOf closer placeOf history numberWord indexRowOf indexRows
+index-table = refl
 
 -- the spoiled ballot's hidden track: items 10, 11, 13 and 14 lead up to it, and the ballot to its session and genesis
 pub track : ancestry (history toy board 21) 14 ≡ 14 ∷ 13 ∷ 11 ∷ 10 ∷ 9 ∷ 8 ∷ 7 ∷ 6 ∷ 5 ∷ 4 ∷ 3 ∷ 2 ∷ 1 ∷ []

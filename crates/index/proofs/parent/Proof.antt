@@ -1,24 +1,12 @@
--- `parent` meets its contract: the second word of the row is the parent's number. Assumes nothing.
+-- `parent` meets its contract: its column of the row is the parent's number. Assumes nothing.
 use mathlib.Core.Path.{_∙_}
 use borrow.Author.Needs.{needs}
 use Rattle.index.proofs.Rows.{row-says}
 use Rattle.index.proofs.parent.Statement.{statement}
 use Rattle.index.proofs.parent.Tie as tie
 
-sub-row : tie.Need-sub-row
-sub-row c = search needs
-
-mul-row : tie.Need-mul-row
-mul-row c = search needs
-
-add-wide : tie.Need-add-wide
-add-wide c = search needs
-
-mul-wide : tie.Need-mul-wide
-mul-wide c = search needs
-
-shared-slice-read-wide : tie.Need-shared-slice-read-wide
-shared-slice-read-wide c = search needs
+word-requires : tie.Need-word-requires
+word-requires c κs = search needs
 
 wide-requires : tie.Need-wide-requires
 wide-requires c κs = search needs
@@ -26,7 +14,7 @@ wide-requires c κs = search needs
 returns : tie.Need-returns
 returns c =
     let s = c .before .before .before .before in
-    c .wide .ensures ∙ row-says (s .pre .0) (s .args .k) (s .pre .1 .0) (s .pre .1 .1) .parent
+    c .wide .ensures ∙ c .before .word .ensures ∙ row-says (s .pre .0) (s .args .k) (s .pre .1 .0) (s .pre .1 .1) .parent
 
 pub parent-spec : {M : Type 1} → statement M
-parent-spec = tie.close (tie.spec sub-row mul-row add-wide mul-wide shared-slice-read-wide wide-requires returns)
+parent-spec = tie.close (tie.spec word-requires wide-requires returns)

@@ -69,20 +69,20 @@ mul-index-5 c = search needs
 slice-write-index-5 : tie.Need-slice-write-index-5
 slice-write-index-5 c = simp length-set (omega arith)
 
-close-requires : tie.Need-close-requires
-close-requires c κs =
+put-closer-requires : tie.Need-put-closer-requires
+put-closer-requires c κs =
     let s = c .before .before .before .before .before .before in
     let p = s .pre .0 in
     ((p .more, simp length-set (p .kept .room)), λ t. let (some, few) = closes-row p t in (some, omega (arith, p .more)))
 
 same-length : tie.Need-same-length
-same-length c = search (needs, c .before .before .close .ensures, length-closed)
+same-length c = search (needs, c .before .before .put-closer .ensures, length-closed)
 
 returns : tie.Need-returns
 returns c =
     let at-close = c .before .before in
     let s = at-close .before .before .before .before .before .before .before in
-    kept-next (s .pre .0) _ _ (at-close .before .before .number-word .ensures) (s .pre .1) _ (at-close .close .ensures)
+    kept-next (s .pre .0) _ _ (at-close .before .before .number-word .ensures) (s .pre .1) _ (at-close .put-closer .ensures)
 
 pub put-spec : {M : Type 1} → statement M
 put-spec =
@@ -108,6 +108,6 @@ put-spec =
     add-index-5
     mul-index-5
     slice-write-index-5
-    close-requires
+    put-closer-requires
     same-length
     returns)

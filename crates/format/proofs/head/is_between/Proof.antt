@@ -1,7 +1,7 @@
--- `phase::is_between` meets its contract. Assumes nothing.
+-- `head::is_between` meets its contract. Assumes nothing.
 use borrow.Author.Tests.{eq-eqb, ne-eqb, le-leb, lt-leb}
-use Rattle.format.proofs.phase.is_between.Statement.{statement}
-use Rattle.format.proofs.phase.is_between.Tie as tie
+use Rattle.format.proofs.head.is_between.Statement.{statement}
+use Rattle.format.proofs.head.is_between.Tie as tie
 
 ruleset tests = (eq-eqb, ne-eqb, le-leb, lt-leb)
 

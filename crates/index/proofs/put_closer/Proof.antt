@@ -1,4 +1,4 @@
--- `close` meets its contract: its returns are the two cases of `closedBy`, and a ballot has a row. Assumes nothing.
+-- `put_closer` meets its contract: its returns are the two cases of `closedBy`, and a ballot has a row. Assumes nothing.
 use Prim.Native.Nat.{_≤_}
 use native.Mathlib.Omega.{arith}
 use mathlib.Core.Path.{sym, _∙_}
@@ -7,19 +7,19 @@ use borrow.Author.Tests.{not-true, not-false}
 use Rattle.model.specs.Audit.{itemLimit}
 use Rattle.model.proofs.Tests.{passes}
 use Rattle.index.proofs.Putting.{closed-none, closed-some}
-use Rattle.index.proofs.close.Statement.{statement}
-use Rattle.index.proofs.close.Tie as tie
+use Rattle.index.proofs.put_closer.Statement.{statement}
+use Rattle.index.proofs.put_closer.Tie as tie
 
-is-closing-requires : tie.Need-is-closing-requires
-is-closing-requires c κs = search needs
+is-between-requires : tie.Need-is-between-requires
+is-between-requires c κs = search needs
 
 returns : tie.Need-returns
 returns c =
-    closed-none (c .before .before .before .args .c) _ _ (sym (c .before .is-closing .ensures) ∙ not-true _ (c .if1 .taken))
+    closed-none (c .before .before .before .args .c) _ _ (sym (c .before .is-between .ensures) ∙ not-true _ (c .if1 .taken))
 
 -- a ballot has a row
 ballot : (c : tie.Else1) → let x = c .before .before .before .args .c in (1 ≤ x .parent) × (x .parent ≤ itemLimit)
-ballot c = c .before .before .before .pre .1 (passes (sym (c .before .is-closing .ensures) ∙ not-false _ (c .if1 .left)))
+ballot c = c .before .before .before .pre .1 (passes (sym (c .before .is-between .ensures) ∙ not-false _ (c .if1 .left)))
 
 sub-row : tie.Need-sub-row
 sub-row c = omega (arith, ballot (c .before))
@@ -48,13 +48,13 @@ same-length c = search needs
 returns-2 : tie.Need-returns-2
 returns-2 c =
     let e = c .before in
-    closed-some (e .before .before .before .args .c) _ _ (sym (e .before .is-closing .ensures) ∙ not-false _ (e .if1 .left))
+    closed-some (e .before .before .before .args .c) _ _ (sym (e .before .is-between .ensures) ∙ not-false _ (e .if1 .left))
 
-pub close-spec : {M : Type 1} → statement M
-close-spec =
+pub put-closer-spec : {M : Type 1} → statement M
+put-closer-spec =
     tie.close
     (tie.spec
-    is-closing-requires
+    is-between-requires
     returns
     sub-row
     mul-row
