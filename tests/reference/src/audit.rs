@@ -191,11 +191,11 @@ fn accepted(history: &History) -> Report {
 fn write_index(history: &History, index: &mut [u32]) {
     for (number, row) in (1..=history.items()).zip(index.chunks_mut(INDEX_ROW)) {
         let item = history.item(number);
-        row[column::PLACE] = item.place as u32;
-        row[column::PARENT] = item.parent as u32;
-        row[column::SESSION] = item.session.map_or(NO_SESSION, |s| s as u32);
-        row[column::MAINS_BEFORE] = item.mains_before as u32;
-        row[column::CLOSED_BY] = closed_by(history, number).map_or(NOT_CLOSED, |c| c as u32);
+        row[index_row::PLACE] = item.place as u32;
+        row[index_row::PARENT] = item.parent as u32;
+        row[index_row::SESSION] = item.session.map_or(NO_ITEM, |s| s as u32);
+        row[index_row::MAINS_BEFORE] = item.mains_before as u32;
+        row[index_row::CLOSED_BY] = closed_by(history, number).map_or(NO_ITEM, |c| c as u32);
     }
 }
 
@@ -218,9 +218,9 @@ fn write_ballots(history: &History, ballots: &mut [u32]) {
     assert!(count <= MAX_BALLOTS && ballots.len() >= BALLOT_ROW * count, "every row has its place");
     assert!(count == 0 || 5 + 5 * count <= history.mains(), "every counted ballot has items of its own");
     for (counted, row) in history.counted.iter().zip(ballots.chunks_mut(BALLOT_ROW)) {
-        row[0] = history.item(counted.ballot).mains_before as u32 + 1;
-        row[1] = counted.voter;
-        row[2] = counted.weight;
+        row[ballot_row::BALLOT] = history.item(counted.ballot).mains_before as u32 + 1;
+        row[ballot_row::VOTER] = counted.voter;
+        row[ballot_row::WEIGHT] = counted.weight;
     }
 }
 

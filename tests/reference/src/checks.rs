@@ -4,7 +4,7 @@
 use crate::ancestry::ancestry;
 use crate::audit::{audit, refused, Report};
 use crate::closed::{broken, check_closed, PROPERTIES};
-use crate::compare::{compare, Board, Tables};
+use crate::compare::{compare, Board, Comparison, Tables};
 use crate::crowded::{crowded, most_ballots};
 use crate::damage::{damage_plan, damage_words, no_board};
 use crate::faults::{faults, rank, spoil_more, Fault};
@@ -442,7 +442,7 @@ pub fn check_full(case: &Case) -> Result<bool, String> {
     let (mut index, mut ballots) = (vec![0; FULL_INDEX], vec![0; FULL_TABLE]);
     let report = audit(&case.words, &case.verdicts, &mut index, &mut ballots);
     // The last word is a weight, which is at least 1; so is a ballot's main number.
-    let all_used = ballots.chunks(BALLOT_ROW).all(|row| row[0] != 0 && row[2] != 0);
+    let all_used = ballots.chunks(BALLOT_ROW).all(|row| row[ballot_row::BALLOT] != 0 && row[ballot_row::WEIGHT] != 0);
     if report.ballots as usize != FULL || !all_used || ballots[FULL_TABLE - 1] == 0 {
         return Err(format!("{}: {FULL} ballots do not fill the table", case.name));
     }
@@ -551,11 +551,11 @@ pub fn shown(case: &Case) -> [bool; WANTED.len()] {
 /// The main number of the cast or spoil under each main item; 0 where there is none.
 fn closed_mains(words: &[u32], index: &[u32], items: usize) -> Vec<u32> {
     let rows: Vec<&[u32]> = index.chunks(INDEX_ROW).take(items).collect();
-    let mains = rows.iter().filter(|row| kind(words[row[column::PLACE] as usize]) == MAIN);
+    let mains = rows.iter().filter(|row| kind(words[row[index_row::PLACE] as usize]) == MAIN);
     mains
-        .map(|row| match row[column::CLOSED_BY] {
-            NOT_CLOSED => 0,
-            closer => rows[closer as usize - 1][column::MAINS_BEFORE] + 1,
+        .map(|row| match row[index_row::CLOSED_BY] {
+            NO_ITEM => 0,
+            closer => rows[closer as usize - 1][index_row::MAINS_BEFORE] + 1,
         })
         .collect()
 }
@@ -829,7 +829,7 @@ fn call_audit<'a>(
             words.as_ptr(), words.len(), verdicts.as_ptr(), verdicts.len(),
             index.pointer(), il, ballots.pointer(), bl, answer.pointer(), al)
     };
-    let boards = vec![Passed { words, accepted: enough && answer.given()[0] == 0, index: 1 }];
+    let boards = vec![Passed { words, accepted: enough && answer.given()[audit_answer::NUMBER] == 0, index: 1 }];
     let buffers = vec![(answer, "answer"), (index, "index table"), (ballots, "ballot table")];
     Call { entry: "audit".to_string(), given, expected: enough, buffers, boards }
 }
@@ -889,7 +889,7 @@ fn call_ancestry<'a>(
     if enough {
         let expected =
             ancestry(words, verdicts, number, &mut index.reference, &mut ballots.reference, &mut list.reference);
-        put(&mut answer, &[expected.number, expected.count]);
+        put(&mut answer, &ancestry_words(&expected));
         tally[expected.number as usize] += 1;
     } else {
         tally[23] += 1;
@@ -902,7 +902,8 @@ fn call_ancestry<'a>(
             index.pointer(), il, ballots.pointer(), bl, list.pointer(), ll, answer.pointer(), al)
     };
     // 19 is given of a board that was accepted.
-    let boards = vec![Passed { words, accepted: enough && matches!(answer.given()[0], 0 | 19), index: 2 }];
+    let accepted = enough && matches!(answer.given()[ancestry_answer::NUMBER], 0 | 19);
+    let boards = vec![Passed { words, accepted, index: 2 }];
     let buffers = vec![(answer, "answer"), (list, "list"), (index, "index table"), (ballots, "ballot table")];
     Some(Call { entry: format!("ancestry of item {number}"), given, expected: enough, buffers, boards })
 }
@@ -954,9 +955,14 @@ fn call_compare<'a>(
     if enough {
         let of_kept = Tables { index: &mut ki.reference, ballots: &mut kb.reference };
         let of_later = Tables { index: &mut li.reference, ballots: &mut lb.reference };
-        let words = compare_words(&compare(kept, later, number, of_kept, of_later));
-        put(&mut answer, &words);
-        tally[if words[0] == 0 { words[2] as usize } else { 19 + words[0] as usize }] += 1;
+        let comparison = compare(kept, later, number, of_kept, of_later);
+        put(&mut answer, &compare_words(&comparison));
+        tally[match comparison {
+            Comparison::Refused { number, .. } => number as usize,
+            Comparison::Apart => 20,
+            Comparison::Same => 21,
+            Comparison::Collision { .. } => 22,
+        }] += 1;
     } else {
         tally[23] += 1;
     }
@@ -985,10 +991,12 @@ fn call_compare<'a>(
 
 /// Whether the kept board and the later one were accepted, by a comparison's answer.
 fn accepted_in_comparison(answer: &[u32]) -> [bool; 2] {
-    match answer[..3] {
-        [0, 0, _] => [false, false],
+    let [kind, board, number] =
+        [compare_answer::KIND, compare_answer::BOARD, compare_answer::NUMBER].map(|at| answer[at]);
+    match (kind, board) {
+        (compare_kind::REFUSED, 0) => [false, false],
         // 19 is given of a board that was accepted.
-        [0, _, number] if number != 19 => [true, false],
+        (compare_kind::REFUSED, _) if number != 19 => [true, false],
         _ => [true, true],
     }
 }

@@ -6,12 +6,20 @@ pub const INDEX_ROW: usize = 5;
 pub const BALLOT_ROW: usize = 3;
 
 /// The columns of an index row.
-pub mod column {
+pub mod index_row {
     pub const PLACE: usize = 0;
     pub const PARENT: usize = 1;
     pub const SESSION: usize = 2;
     pub const MAINS_BEFORE: usize = 3;
     pub const CLOSED_BY: usize = 4;
+}
+
+/// The columns of a ballot row.
+pub mod ballot_row {
+    /// The main number of the ballot.
+    pub const BALLOT: usize = 0;
+    pub const VOTER: usize = 1;
+    pub const WEIGHT: usize = 2;
 }
 
 /// The most ballots that a board can count. Each has five items of its own: session, two
@@ -22,10 +30,9 @@ pub const MAX_BALLOTS: usize = 408;
 pub const INDEX_NEED: usize = INDEX_ROW * MAX_ITEMS;
 pub const BALLOTS_NEED: usize = BALLOT_ROW * MAX_BALLOTS;
 pub const LIST_NEED: usize = 2_048;
-/// The session column of an item that has none.
-pub const NO_SESSION: u32 = u32::MAX;
-/// The column of the cast or spoil under a ballot, for an open ballot and for an item that is none.
-pub const NOT_CLOSED: u32 = u32::MAX;
+/// No item's number, in an index row: the session of an item that has none; the cast or spoil under an
+/// open ballot, or under an item that is no ballot.
+pub const NO_ITEM: u32 = u32::MAX;
 
 const _: () = assert!(MAX_BALLOTS == (MAX_ITEMS - 5) / 5 && BALLOTS_NEED == 1_224);
 const _: () = assert!(INDEX_NEED == 10_240);

@@ -3,11 +3,50 @@
 //! A slice passes as a pointer and a length. An entry gives false and writes nothing at all
 //! where the answer's buffer is too short.
 
+use crate::ancestry::Ancestry;
+use crate::audit::Report;
 use crate::compare::{Comparison, Side};
 
 pub const AUDIT_ANSWER: usize = 14;
 pub const COMPARE_ANSWER: usize = 6;
 pub const ANCESTRY_ANSWER: usize = 2;
+
+/// Where the words of the audit's answer stand.
+pub mod audit_answer {
+    pub const NUMBER: usize = 0;
+    pub const ITEMS: usize = 1;
+    pub const MAINS: usize = 2;
+    pub const BALLOTS: usize = 3;
+    pub const WEIGHT_HIGH: usize = 4;
+    pub const WEIGHT_LOW: usize = 5;
+    /// Eight words, the last of the answer.
+    pub const END: usize = 6;
+}
+
+/// Where the words of the comparison's answer stand.
+pub mod compare_answer {
+    pub const KIND: usize = 0;
+    /// 0 is the kept board, 1 the later one.
+    pub const BOARD: usize = 1;
+    pub const NUMBER: usize = 2;
+    pub const ITEMS: usize = 3;
+    pub const KEPT_MAIN: usize = 4;
+    pub const LATER_MAIN: usize = 5;
+}
+
+/// The kinds of the comparison's answer.
+pub mod compare_kind {
+    pub const REFUSED: u32 = 0;
+    pub const APART: u32 = 1;
+    pub const SAME: u32 = 2;
+    pub const COLLISION: u32 = 3;
+}
+
+/// Where the words of the ancestry's answer stand.
+pub mod ancestry_answer {
+    pub const NUMBER: usize = 0;
+    pub const COUNT: usize = 1;
+}
 
 #[rustfmt::skip]
 pub type AuditEntry = unsafe extern "C" fn(
@@ -29,23 +68,46 @@ pub struct Interface {
     pub ancestry: Option<AncestryEntry>,
 }
 
-/// Number, items, mains, ballots, weight (high first), end address.
-pub fn audit_words(r: &crate::audit::Report) -> [u32; AUDIT_ANSWER] {
+pub fn audit_words(report: &Report) -> [u32; AUDIT_ANSWER] {
+    use audit_answer::*;
     let mut words = [0; AUDIT_ANSWER];
-    words[..6].copy_from_slice(&[r.number, r.items, r.mains, r.ballots, (r.weight >> 32) as u32, r.weight as u32]);
-    words[6..].copy_from_slice(&r.end);
+    words[NUMBER] = report.number;
+    words[ITEMS] = report.items;
+    words[MAINS] = report.mains;
+    words[BALLOTS] = report.ballots;
+    words[WEIGHT_HIGH] = (report.weight >> 32) as u32;
+    words[WEIGHT_LOW] = report.weight as u32;
+    words[END..].copy_from_slice(&report.end);
     words
 }
 
-/// Kind (0 refused, 1 apart, 2 same, 3 collision), board (0 kept, 1 later), number, items,
-/// kept main number, later main number.
-pub fn compare_words(c: &Comparison) -> [u32; COMPARE_ANSWER] {
-    match *c {
-        Comparison::Refused { side, number, items } => [0, u32::from(side == Side::Later), number, items, 0, 0],
-        Comparison::Apart => [1, 0, 0, 0, 0, 0],
-        Comparison::Same => [2, 0, 0, 0, 0, 0],
-        Comparison::Collision { kept, later } => [3, 0, 0, 0, kept, later],
+/// The words that a kind does not use are 0.
+pub fn compare_words(comparison: &Comparison) -> [u32; COMPARE_ANSWER] {
+    use compare_answer::*;
+    let mut words = [0; COMPARE_ANSWER];
+    match *comparison {
+        Comparison::Refused { side, number, items } => {
+            words[KIND] = compare_kind::REFUSED;
+            words[BOARD] = u32::from(side == Side::Later);
+            words[NUMBER] = number;
+            words[ITEMS] = items;
+        }
+        Comparison::Apart => words[KIND] = compare_kind::APART,
+        Comparison::Same => words[KIND] = compare_kind::SAME,
+        Comparison::Collision { kept, later } => {
+            words[KIND] = compare_kind::COLLISION;
+            words[KEPT_MAIN] = kept;
+            words[LATER_MAIN] = later;
+        }
     }
+    words
+}
+
+pub fn ancestry_words(ancestry: &Ancestry) -> [u32; ANCESTRY_ANSWER] {
+    let mut words = [0; ANCESTRY_ANSWER];
+    words[ancestry_answer::NUMBER] = ancestry.number;
+    words[ancestry_answer::COUNT] = ancestry.count;
+    words
 }
 
 /// The static library's entries, where it is linked. `build.rs` sees which it has.

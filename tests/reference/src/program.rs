@@ -1,7 +1,7 @@
 //! What the auditing program prints for the bytes of its two files.
 
 use crate::audit::audit;
-use crate::format::{BALLOTS_NEED, BALLOT_ROW, INDEX_NEED};
+use crate::format::{ballot_row, BALLOTS_NEED, BALLOT_ROW, INDEX_NEED};
 
 /// The words of a board that the program takes.
 pub const PROGRAM_WORDS: usize = 16_384;
@@ -22,7 +22,8 @@ pub fn program(board: &[u8], verdicts: &[u8]) -> String {
     }
     let mut text = format!("accepted {} {} {} {}\n", report.items, report.mains, report.ballots, report.weight);
     for row in ballots.chunks(BALLOT_ROW).take(report.ballots as usize) {
-        text += &format!("{} {} {}\n", row[0], row[1], row[2]);
+        let [ballot, voter, weight] = [ballot_row::BALLOT, ballot_row::VOTER, ballot_row::WEIGHT].map(|at| row[at]);
+        text += &format!("{ballot} {voter} {weight}\n");
     }
     text
 }

@@ -58,7 +58,7 @@ impl Ballots {
     pub fn new(words: &[u32], places: &[usize], expected: &Expected) -> Ballots {
         let code_of = |number: u32| code(words[places[number as usize - 1]]);
         let closer = |row: &Row| {
-            (row.closed_by != NOT_CLOSED).then(|| Closer {
+            (row.closed_by != NO_ITEM).then(|| Closer {
                 code: code_of(row.closed_by),
                 number: row.closed_by,
                 main_number: expected.rows[row.closed_by as usize - 1].mains_before + 1,

@@ -37,7 +37,8 @@ pub struct Expected {
     /// One row an item.
     pub rows: Vec<Row>,
     pub mains: usize,
-    /// Main number of the ballot, voter, weight.
+    /// Main number of the ballot, voter, weight: the order is written out, not taken from `format`, so that
+    /// a wrong one there is noticed.
     pub ballots: Vec<[u32; 3]>,
 }
 
@@ -256,11 +257,11 @@ impl Maker<'_> {
         let kind = kind_of(code).expect("a listed type");
         let session = match code {
             SESSION => position as u32 + 1,
-            GENESIS => NO_SESSION,
+            GENESIS => NO_ITEM,
             _ => self.expected.rows[parent].session,
         };
         let mains_before = self.expected.mains as u32;
-        self.expected.rows.push(Row { parent: parent as u32 + 1, session, mains_before, closed_by: NOT_CLOSED });
+        self.expected.rows.push(Row { parent: parent as u32 + 1, session, mains_before, closed_by: NO_ITEM });
         if matches!(code, CAST | SPOIL) {
             self.expected.rows[parent].closed_by = position as u32 + 1;
         }

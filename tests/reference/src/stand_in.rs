@@ -120,18 +120,18 @@ fn close_wrongly(board: Board, index: &mut [u32], of: Of) {
     }
     let right = index.to_vec();
     let rows: Vec<&[u32]> = right.chunks(INDEX_ROW).take(board.verdicts.len() / VERDICT_WORDS).collect();
-    let is = |row: &[u32], wanted: u32| code(board.words[row[column::PLACE] as usize]) == wanted;
-    let fifth = |number: usize| (number - 1) * INDEX_ROW + column::CLOSED_BY;
+    let is = |row: &[u32], wanted: u32| code(board.words[row[index_row::PLACE] as usize]) == wanted;
+    let fifth = |number: usize| (number - 1) * INDEX_ROW + index_row::CLOSED_BY;
     for (number, row) in (1..).zip(&rows).filter(|(_, row)| is(row, BALLOT)) {
-        let closed_by = row[column::CLOSED_BY] as usize;
+        let closed_by = row[index_row::CLOSED_BY] as usize;
         // An open ballot's fifth word is no item's number.
         match (mistake, rows.get(closed_by - 1)) {
             (16, Some(_)) => {
-                index[fifth(number)] = NOT_CLOSED;
+                index[fifth(number)] = NO_ITEM;
                 index[fifth(closed_by)] = closed_by as u32;
             }
-            (17 | 20, Some(closer)) if is(closer, SPOIL) => index[fifth(number)] = NOT_CLOSED,
-            (18, Some(closer)) => index[fifth(number)] = closer[column::MAINS_BEFORE] + 1,
+            (17 | 20, Some(closer)) if is(closer, SPOIL) => index[fifth(number)] = NO_ITEM,
+            (18, Some(closer)) => index[fifth(number)] = closer[index_row::MAINS_BEFORE] + 1,
             (19, None) => index[fifth(number)] = 0,
             _ => {}
         }
@@ -252,5 +252,5 @@ unsafe extern "C" fn stand_in_ancestry(
         given
     });
     let tables = [(list, list_len), (ballots, ballots_len)];
-    finish(answer, answer_len, &[given.number, given.count], tables)
+    finish(answer, answer_len, &ancestry_words(&given), tables)
 }

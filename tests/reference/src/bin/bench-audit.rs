@@ -15,7 +15,7 @@
 
 use reference::audit::{audit_with, hashed};
 use reference::format::*;
-use reference::interface::{library, AUDIT_ANSWER};
+use reference::interface::{audit_answer, library, AUDIT_ANSWER};
 use reference::plan::Laid;
 use reference::program::bytes;
 use reference::random::Random;
@@ -116,7 +116,8 @@ fn row(items: usize, board: &Laid) -> bool {
             };
             by_library = by_library.min(now() - run);
             assert!(written, "the answer has room");
-            assert_eq!((answer[0], answer[1]), (0, items as u32), "the library accepts the board");
+            let given = [answer[audit_answer::NUMBER], answer[audit_answer::ITEMS]];
+            assert_eq!(given, [0, items as u32], "the library accepts the board");
         }
     }
     by_reference.sort_by(f64::total_cmp);

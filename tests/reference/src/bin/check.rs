@@ -9,7 +9,7 @@ use reference::checks::*;
 use reference::closed::PROPERTIES;
 use reference::collisions;
 use reference::crowded::crowded;
-use reference::header::check_header;
+use reference::header::{check_header, check_header_mistakes};
 use reference::interface::{library, Interface};
 use reference::program::{bytes, program};
 use reference::random::Random;
@@ -128,8 +128,13 @@ fn vectors() {
 
 fn header(options: &Options) {
     let Some(path) = &options.header else { return };
-    match check_header(path) {
-        Ok(count) => println!("header     {count} lengths are those of the interface ({})", path.display()),
+    let text = fs::read_to_string(path).unwrap_or_else(|e| fail(&format!("{}: {e}", path.display())));
+    match check_header(&text) {
+        Ok(count) => println!("header     {count} names are defined as in the interface ({})", path.display()),
+        Err(message) => fail(&message),
+    }
+    match check_header_mistakes(&text) {
+        Ok(count) => println!("           {count} planted mistakes are found"),
         Err(message) => fail(&message),
     }
 }
