@@ -7,7 +7,7 @@ use crate::compare::{compare, Board, Comparison, Side, Tables};
 use crate::format::*;
 use crate::interface::*;
 use std::slice::{from_raw_parts, from_raw_parts_mut};
-use std::sync::atomic::{AtomicUsize, Ordering};
+use std::sync::Mutex;
 
 /// What the ballot table needed before request (viii): a row for each item. A planted mistake
 /// asks for it still, and the checks pass it as a longer table.
@@ -20,38 +20,78 @@ pub fn stand_in() -> Interface {
     Interface { audit: stand_in_audit, compare: Some(stand_in_compare), ancestry: Some(stand_in_ancestry) }
 }
 
-/// The mistake the stand-in makes: 0 is none.
-pub static MISTAKE: AtomicUsize = AtomicUsize::new(0);
+/// What a mistake is about: which boards and which lengths of tables show it.
+#[derive(Clone, Copy, PartialEq, Eq, Debug)]
+pub enum About {
+    /// The words that are written, or the result.
+    Words,
+    /// The lengths of tables, and the ballot table's last row.
+    Lengths,
+    /// Who closed a ballot.
+    Closed,
+}
 
-pub const MISTAKES: [&str; 21] = [
-    "none",
-    "an answer word is wrong",
-    "the last answer word is wrong",
-    "an index word is wrong",
-    "the last index word is not written",
-    "a ballot word is wrong",
-    "the last ballot word is not written",
-    "a word behind the index is written",
-    "a word behind the ballots is written",
-    "a short answer buffer is written",
-    "the result is wrong",
-    "6,144 words of ballot table are asked for",
-    "a ballot table of one row less is taken",
-    "the 408th ballot row is not written",
-    "a ballot table that is too short is cleared",
-    "8,192 words of index table are taken",
-    "a cast or spoil is named in its own index row",
-    "a spoil is named in no index row",
-    "a ballot's index row has a main number",
-    "an open ballot's index row has 0",
-    "a spoil is named in no index row of the kept board",
-];
+/// Makes the mistakes of a list: each has a name, what it is about, and what is wrong.
+macro_rules! mistakes {
+    ($($name:ident, $about:ident, $what:literal;)*) => {
+        #[derive(Clone, Copy, PartialEq, Eq, Debug)]
+        pub enum Mistake {
+            $($name),*
+        }
 
-/// From here on the mistakes are about the lengths of tables, and the ballot table's last row.
-pub const LENGTH_MISTAKES: usize = 11;
+        /// All of them.
+        pub const MISTAKES: &[Mistake] = &[$(Mistake::$name),*];
 
-/// From here on they are about who closed a ballot.
-pub const CLOSED_MISTAKES: usize = 16;
+        impl Mistake {
+            pub fn about(self) -> About {
+                match self {
+                    $(Mistake::$name => About::$about),*
+                }
+            }
+
+            pub fn what(self) -> &'static str {
+                match self {
+                    $(Mistake::$name => $what),*
+                }
+            }
+        }
+    };
+}
+
+mistakes! {
+    AnswerWord, Words, "an answer word is wrong";
+    LastAnswerWord, Words, "the last answer word is wrong";
+    IndexWord, Words, "an index word is wrong";
+    LastIndexWord, Words, "the last index word is not written";
+    BallotWord, Words, "a ballot word is wrong";
+    LastBallotWord, Words, "the last ballot word is not written";
+    BehindIndex, Words, "a word behind the index is written";
+    BehindBallots, Words, "a word behind the ballots is written";
+    ShortAnswer, Words, "a short answer buffer is written";
+    Result, Words, "the result is wrong";
+    LongBallots, Lengths, "6,144 words of ballot table are asked for";
+    ShortBallots, Lengths, "a ballot table of one row less is taken";
+    LastBallotRow, Lengths, "the 408th ballot row is not written";
+    ShortBallotsCleared, Lengths, "a ballot table that is too short is cleared";
+    ShortIndex, Lengths, "8,192 words of index table are taken";
+    CloserInItsOwnRow, Closed, "a cast or spoil is named in its own index row";
+    SpoilNotNamed, Closed, "a spoil is named in no index row";
+    CloserByMainNumber, Closed, "a ballot's index row has a main number";
+    OpenBallotHasZero, Closed, "an open ballot's index row has 0";
+    SpoilNotNamedInKept, Closed, "a spoil is named in no index row of the kept board";
+}
+
+/// The mistake that the stand-in makes.
+static MADE: Mutex<Option<Mistake>> = Mutex::new(None);
+
+/// Tells the stand-in to make a mistake from now on, or none.
+pub fn make_mistake(mistake: Option<Mistake>) {
+    *MADE.lock().expect("nothing fails while it is held") = mistake;
+}
+
+fn made() -> Option<Mistake> {
+    *MADE.lock().expect("nothing fails while it is held")
+}
 
 /// Runs an entry with the tables that were passed, or with what a mistake makes of them.
 fn with_tables<T>(tables: Tables, run: impl FnOnce(Tables) -> T) -> T {
@@ -70,8 +110,10 @@ fn with_longer<T>(table: &mut [u32], need: usize, run: impl FnOnce(&mut [u32]) -
 
 /// Runs an entry with the index table that was passed, or with what a mistake makes of it.
 fn with_index<T>(table: &mut [u32], run: impl FnOnce(&mut [u32]) -> T) -> T {
-    match MISTAKE.load(Ordering::Relaxed) {
-        15 if (INDEX_NEED_BEFORE..INDEX_NEED).contains(&table.len()) => with_longer(table, INDEX_NEED, run),
+    match made() {
+        Some(Mistake::ShortIndex) if (INDEX_NEED_BEFORE..INDEX_NEED).contains(&table.len()) => {
+            with_longer(table, INDEX_NEED, run)
+        }
         _ => run(table),
     }
 }
@@ -79,11 +121,13 @@ fn with_index<T>(table: &mut [u32], run: impl FnOnce(&mut [u32]) -> T) -> T {
 /// Runs an entry with the ballot table that was passed, or with what a mistake makes of it.
 fn with_ballots<T>(table: &mut [u32], run: impl FnOnce(&mut [u32]) -> T) -> T {
     let len = table.len();
-    match MISTAKE.load(Ordering::Relaxed) {
+    match made() {
         // The reference refuses what is left.
-        11 if len < BALLOTS_NEED_BEFORE => run(&mut table[..len.min(BALLOTS_NEED - 1)]),
-        12 if (BALLOTS_NEED - BALLOT_ROW..BALLOTS_NEED).contains(&len) => with_longer(table, BALLOTS_NEED, run),
-        13 if len >= BALLOTS_NEED => {
+        Some(Mistake::LongBallots) if len < BALLOTS_NEED_BEFORE => run(&mut table[..len.min(BALLOTS_NEED - 1)]),
+        Some(Mistake::ShortBallots) if (BALLOTS_NEED - BALLOT_ROW..BALLOTS_NEED).contains(&len) => {
+            with_longer(table, BALLOTS_NEED, run)
+        }
+        Some(Mistake::LastBallotRow) if len >= BALLOTS_NEED => {
             let row = BALLOTS_NEED - BALLOT_ROW..BALLOTS_NEED;
             let before = table[row.clone()].to_vec();
             let given = run(table);
@@ -93,7 +137,7 @@ fn with_ballots<T>(table: &mut [u32], run: impl FnOnce(&mut [u32]) -> T) -> T {
             }
             given
         }
-        14 if len < BALLOTS_NEED => {
+        Some(Mistake::ShortBallotsCleared) if len < BALLOTS_NEED => {
             let given = run(table);
             table.fill(0);
             given
@@ -110,12 +154,12 @@ enum Of {
     Later,
 }
 
-/// Makes a mistake about who closed a ballot in an accepted board's index table. In a comparison the
-/// last of these mistakes is made for the kept board, the others for the later one.
+/// Makes a mistake about who closed a ballot in an accepted board's index table. In a comparison one of
+/// these mistakes is made for the kept board, the others for the later one.
 fn close_wrongly(board: Board, index: &mut [u32], of: Of) {
-    let mistake = MISTAKE.load(Ordering::Relaxed);
-    let spared = if mistake == 20 { Of::Later } else { Of::Kept };
-    if mistake < CLOSED_MISTAKES || of == spared {
+    let Some(mistake) = made().filter(|mistake| mistake.about() == About::Closed) else { return };
+    let spared = if mistake == Mistake::SpoilNotNamedInKept { Of::Later } else { Of::Kept };
+    if of == spared {
         return;
     }
     let right = index.to_vec();
@@ -126,13 +170,17 @@ fn close_wrongly(board: Board, index: &mut [u32], of: Of) {
         let closed_by = row[index_row::CLOSED_BY] as usize;
         // An open ballot's fifth word is no item's number.
         match (mistake, rows.get(closed_by - 1)) {
-            (16, Some(_)) => {
+            (Mistake::CloserInItsOwnRow, Some(_)) => {
                 index[fifth(number)] = NO_ITEM;
                 index[fifth(closed_by)] = closed_by as u32;
             }
-            (17 | 20, Some(closer)) if is(closer, SPOIL) => index[fifth(number)] = NO_ITEM,
-            (18, Some(closer)) => index[fifth(number)] = closer[index_row::MAINS_BEFORE] + 1,
-            (19, None) => index[fifth(number)] = 0,
+            (Mistake::SpoilNotNamed | Mistake::SpoilNotNamedInKept, Some(closer)) if is(closer, SPOIL) => {
+                index[fifth(number)] = NO_ITEM;
+            }
+            (Mistake::CloserByMainNumber, Some(closer)) => {
+                index[fifth(number)] = closer[index_row::MAINS_BEFORE] + 1;
+            }
+            (Mistake::OpenBallotHasZero, None) => index[fifth(number)] = 0,
             _ => {}
         }
     }
@@ -140,25 +188,25 @@ fn close_wrongly(board: Board, index: &mut [u32], of: Of) {
 
 unsafe fn finish(answer: *mut u32, answer_len: usize, words: &[u32], tables: [(*mut u32, usize); 2]) -> bool {
     let [(index, index_len), (ballots, ballots_len)] = tables;
-    let mistake = MISTAKE.load(Ordering::Relaxed);
+    let mistake = made();
     let answer = from_raw_parts_mut(answer, answer_len);
     answer[..words.len()].copy_from_slice(words);
     match mistake {
-        1 => answer[0] ^= 1,
-        2 => answer[words.len() - 1] ^= 1,
-        3 if index_len > 0 => *index ^= 1,
-        4 if index_len > 0 => *index.add(index_len - 1) ^= 1,
-        5 if ballots_len > 1 => *ballots.add(1) ^= 1,
-        6 if ballots_len > 0 => *ballots.add(ballots_len - 1) ^= 1,
-        7 => *index.add(index_len) ^= 1,
-        8 => *ballots.add(ballots_len) ^= 1,
+        Some(Mistake::AnswerWord) => answer[0] ^= 1,
+        Some(Mistake::LastAnswerWord) => answer[words.len() - 1] ^= 1,
+        Some(Mistake::IndexWord) if index_len > 0 => *index ^= 1,
+        Some(Mistake::LastIndexWord) if index_len > 0 => *index.add(index_len - 1) ^= 1,
+        Some(Mistake::BallotWord) if ballots_len > 1 => *ballots.add(1) ^= 1,
+        Some(Mistake::LastBallotWord) if ballots_len > 0 => *ballots.add(ballots_len - 1) ^= 1,
+        Some(Mistake::BehindIndex) => *index.add(index_len) ^= 1,
+        Some(Mistake::BehindBallots) => *ballots.add(ballots_len) ^= 1,
         _ => {}
     }
-    mistake != 10
+    mistake != Some(Mistake::Result)
 }
 
 unsafe fn too_short(answer: *mut u32, answer_len: usize) -> bool {
-    if MISTAKE.load(Ordering::Relaxed) == 9 && answer_len > 0 {
+    if made() == Some(Mistake::ShortAnswer) && answer_len > 0 {
         *answer ^= 1;
     }
     false

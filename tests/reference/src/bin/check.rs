@@ -16,7 +16,7 @@ use reference::random::Random;
 use reference::reached::WANTED;
 use reference::sha256::{check_vectors, sha256};
 use reference::sound::Shape;
-use reference::stand_in::{stand_in, CLOSED_MISTAKES, LENGTH_MISTAKES, MISTAKE, MISTAKES};
+use reference::stand_in::{make_mistake, stand_in, About, Mistake, MISTAKES};
 use reference::stored::check_folder;
 use std::collections::BTreeMap;
 use std::fs;
@@ -190,49 +190,55 @@ fn mistakes_are_found() {
     let makers = Makers::default();
     let sound: Vec<Case> = (0..400).map(|seed| case(&makers, Group::Sound, seed)).collect();
     let full = [case(&makers, Group::Full, 0)];
-    let about_lengths = LENGTH_MISTAKES..CLOSED_MISTAKES;
     let mut broken = [0; PROPERTIES.len()];
-    for (mistake, what) in MISTAKES.iter().enumerate() {
-        MISTAKE.store(mistake, Ordering::Relaxed);
+    for mistake in [None].into_iter().chain(MISTAKES.iter().copied().map(Some)) {
+        make_mistake(mistake);
+        let about = mistake.map(Mistake::about);
         let mut found = Vec::new();
-        if !about_lengths.contains(&mistake) {
+        if about != Some(About::Lengths) {
             found.push(differences(&sound, ANY_LENGTH));
         }
-        if mistake == 0 || about_lengths.contains(&mistake) {
+        if matches!(about, None | Some(About::Lengths)) {
             found.push(differences(&full, FULL_LENGTHS));
         }
-        if mistake == 0 || mistake >= CLOSED_MISTAKES {
+        if matches!(about, None | Some(About::Closed)) {
             found.push(differences(&sound, CLOSED));
         }
-        let right = found.iter().flatten().all(|&times| (times > 0) == (mistake > 0));
+        let right = found.iter().flatten().all(|&times| (times > 0) == mistake.is_some());
         if !right {
+            let what = mistake.map_or("none", Mistake::what);
             fail(&format!("the checks do not see '{what}' as they should: found {found:?} times"));
         }
-        if mistake >= CLOSED_MISTAKES {
+        if about == Some(About::Closed) {
             add_broken(&sound, &mut broken);
         }
     }
-    MISTAKE.store(0, Ordering::Relaxed);
+    make_mistake(None);
     if broken.contains(&0) {
         fail(&format!("the mistakes break the properties of the index table {broken:?} times, one of them never"));
     }
-    println!("harness    {} planted mistakes are found in each entry", MISTAKES.len() - 1);
+    println!("harness    {} planted mistakes are found in each entry", MISTAKES.len());
     println!(
         "           {} of them without the reference, by {} properties of the index table",
-        MISTAKES.len() - CLOSED_MISTAKES,
+        about_closed().count(),
         PROPERTIES.len()
     );
 }
 
-/// The stored tables, too, are to find the mistakes about who closed a ballot.
+/// The mistakes about who closed a ballot.
+fn about_closed() -> impl Iterator<Item = Mistake> {
+    MISTAKES.iter().copied().filter(|mistake| mistake.about() == About::Closed)
+}
+
+/// The stored tables, too, are to find them.
 fn stored_tables_find(options: &Options) {
-    for (mistake, what) in MISTAKES.iter().enumerate().skip(CLOSED_MISTAKES) {
-        MISTAKE.store(mistake, Ordering::Relaxed);
+    for mistake in about_closed() {
+        make_mistake(Some(mistake));
         if options.boards.iter().all(|folder| check_folder(folder, None).is_ok()) {
-            fail(&format!("the stored tables do not see '{what}'"));
+            fail(&format!("the stored tables do not see '{}'", mistake.what()));
         }
     }
-    MISTAKE.store(0, Ordering::Relaxed);
+    make_mistake(None);
     println!("           and by the stored tables");
 }
 
