@@ -4,10 +4,11 @@
 //!
 //! The rules: `sha256`, `format`, `audit`, `compare`, `ancestry`, `program`.
 //! The boards: `random`, `plan`, `sound`, `crowded`, `faults`, `damage`, `collisions`.
-//! The checks: `interface`, `header`, `stand_in`, `closed`, `reached`, `checks`, `stored`.
+//! The checks: `interface`, `header`, `stand_in`, `closed`, `reached`, `calls`, `checks`, `stored`.
 
 pub mod ancestry;
 pub mod audit;
+pub mod calls;
 pub mod checks;
 pub mod closed;
 pub mod collisions;

@@ -5,6 +5,7 @@
 //!   check --all-entries ..      a library that is not linked, or lacks an entry, is a failure
 //!   check --stand-in ..         the reference in the library's place, to try the harness
 
+use reference::calls::Tally;
 use reference::checks::*;
 use reference::closed::PROPERTIES;
 use reference::collisions;

@@ -1,0 +1,330 @@
+//! One call of an entry over the C interface: buffers of any length, full of junk and with guard words on
+//! both sides, go to an implementation; the reference is given the same words. The call can then be
+//! held to the reference word by word, to the boards alone, or to stored tables. Which lengths are tried
+//! with which boards is told in `checks`.
+
+use crate::ancestry::ancestry;
+use crate::audit::audit;
+use crate::checks::Case;
+use crate::closed::{broken, check_closed, PROPERTIES};
+use crate::compare::{compare, Board, Comparison, Tables};
+use crate::format::*;
+use crate::interface::*;
+use crate::random::Random;
+
+/// How often an entry gave each answer: by refusal number, or for comparing 20 apart, 21 same,
+/// 22 collision. 23: an answer buffer too short.
+pub type Tally = [usize; 24];
+
+/// A call of an entry: what it gave, and its buffers by name.
+pub struct Call<'a> {
+    entry: String,
+    given: bool,
+    expected: bool,
+    buffers: Vec<(Buffer, &'static str)>,
+    /// In the order in which they are audited.
+    boards: Vec<Passed<'a>>,
+}
+
+/// A board that was passed to an entry.
+struct Passed<'a> {
+    words: &'a [u32],
+    /// By the answer given.
+    accepted: bool,
+    /// The place of its index table among the buffers. Its ballot table follows there.
+    index: usize,
+}
+
+impl Call<'_> {
+    /// Holds the call to the reference, and to the boards.
+    pub fn hold(&self) -> Result<(), String> {
+        self.hold_words().and_then(|()| self.hold_closed())
+    }
+
+    /// Holds the result to the one expected, and the buffers to the reference.
+    fn hold_words(&self) -> Result<(), String> {
+        if self.given != self.expected {
+            return Err(format!("{} gives {}, not {}", self.entry, self.given, self.expected));
+        }
+        let held = self.buffers.iter().try_for_each(|(buffer, what)| buffer.same(what));
+        held.map_err(|message| format!("{}: {message}", self.entry))
+    }
+
+    /// Holds each index table that was filled to its board, the reference left aside.
+    pub fn hold_closed(&self) -> Result<(), String> {
+        for board in self.boards.iter().filter(|board| board.accepted) {
+            let (index, what) = &self.buffers[board.index];
+            check_closed(board.words, index.given()).map_err(|message| format!("{}: {what}: {message}", self.entry))?;
+        }
+        Ok(())
+    }
+
+    /// Holds the tables of each board that was audited to these, index table first.
+    pub fn hold_tables(&self, tables: &[Vec<u32>; 2]) -> Result<(), String> {
+        let audited = 1 + self.boards.iter().take_while(|board| board.accepted).count();
+        for board in self.boards.iter().take(audited) {
+            for ((table, what), expected) in self.buffers[board.index..].iter().zip(tables) {
+                if let Some(at) = (0..expected.len()).find(|&at| table.given()[at] != expected[at]) {
+                    let (given, expected) = (table.given()[at], expected[at]);
+                    return Err(format!("{}: word {at} of the {what} is {given}, not {expected}", self.entry));
+                }
+            }
+        }
+        Ok(())
+    }
+
+    /// Which properties the index table of the first board breaks; none where it is refused.
+    pub fn broken(&self) -> [bool; PROPERTIES.len()] {
+        match &self.boards[0] {
+            board if board.accepted => {
+                broken(board.words, self.buffers[board.index].0.given()).expect("a row for each item")
+            }
+            _ => [false; PROPERTIES.len()],
+        }
+    }
+}
+
+/// Calls the audit, and the reference beside it. The lengths are of the index table, the ballot table
+/// and the answer.
+pub fn call_audit<'a>(
+    with: &Interface,
+    case: &'a Case,
+    lengths: [usize; 3],
+    random: &mut Random,
+    tally: &mut Tally,
+) -> Call<'a> {
+    let [mut index, mut ballots, mut answer] = lengths.map(|len| Buffer::new(len, random));
+    let enough = answer.len() >= AUDIT_ANSWER;
+    if enough {
+        let report = audit(&case.words, &case.verdicts, &mut index.reference, &mut ballots.reference);
+        put(&mut answer, &audit_words(&report));
+        tally[report.number as usize] += 1;
+    } else {
+        tally[23] += 1;
+    }
+    let (il, bl, al) = (index.len(), ballots.len(), answer.len());
+    let (words, verdicts) = (&case.words, &case.verdicts);
+    // Each pointer is of a live buffer of at least the length given with it.
+    #[rustfmt::skip]
+    let given = unsafe {
+        (with.audit)(
+            words.as_ptr(), words.len(), verdicts.as_ptr(), verdicts.len(),
+            index.pointer(), il, ballots.pointer(), bl, answer.pointer(), al)
+    };
+    let boards = vec![Passed { words, accepted: enough && answer.given()[audit_answer::NUMBER] == 0, index: 1 }];
+    let buffers = vec![(answer, "answer"), (index, "index table"), (ballots, "ballot table")];
+    Call { entry: "audit".to_string(), given, expected: enough, buffers, boards }
+}
+
+/// Calls the comparison, and the reference beside it. The lengths are of the kept board's two tables,
+/// the later one's, and the answer. None where the library has no such entry.
+pub fn call_compare<'a>(
+    with: &Interface,
+    case: &'a Case,
+    lengths: [usize; 5],
+    random: &mut Random,
+    tally: &mut Tally,
+) -> Option<Call<'a>> {
+    let entry = with.compare?;
+    let (kept, later) = kept_and_later(case);
+    let number = asked_main(kept, later, random);
+    let [mut ki, mut kb, mut li, mut lb, mut answer] = lengths.map(|len| Buffer::new(len, random));
+    let enough = answer.len() >= COMPARE_ANSWER;
+    if enough {
+        let of_kept = Tables { index: &mut ki.reference, ballots: &mut kb.reference };
+        let of_later = Tables { index: &mut li.reference, ballots: &mut lb.reference };
+        let comparison = compare(kept, later, number, of_kept, of_later);
+        put(&mut answer, &compare_words(&comparison));
+        tally[match comparison {
+            Comparison::Refused { number, .. } => number as usize,
+            Comparison::Apart => 20,
+            Comparison::Same => 21,
+            Comparison::Collision { .. } => 22,
+        }] += 1;
+    } else {
+        tally[23] += 1;
+    }
+    #[rustfmt::skip]
+    let given = unsafe {
+        entry(
+            kept.words.as_ptr(), kept.words.len(), kept.verdicts.as_ptr(), kept.verdicts.len(),
+            later.words.as_ptr(), later.words.len(), later.verdicts.as_ptr(), later.verdicts.len(), number,
+            ki.pointer(), lengths[0], kb.pointer(), lengths[1],
+            li.pointer(), lengths[2], lb.pointer(), lengths[3], answer.pointer(), lengths[4])
+    };
+    let accepted = if enough { accepted_in_comparison(answer.given()) } else { [false, false] };
+    let boards = vec![
+        Passed { words: kept.words, accepted: accepted[0], index: 1 },
+        Passed { words: later.words, accepted: accepted[1], index: 3 },
+    ];
+    let buffers = vec![
+        (answer, "answer"),
+        (ki, "kept index table"),
+        (kb, "kept ballot table"),
+        (li, "later index table"),
+        (lb, "later ballot table"),
+    ];
+    Some(Call { entry: format!("compare at main {number}"), given, expected: enough, buffers, boards })
+}
+
+/// Whether the kept board and the later one were accepted, by a comparison's answer.
+fn accepted_in_comparison(answer: &[u32]) -> [bool; 2] {
+    let [kind, board, number] =
+        [compare_answer::KIND, compare_answer::BOARD, compare_answer::NUMBER].map(|at| answer[at]);
+    match (kind, board) {
+        (compare_kind::REFUSED, 0) => [false, false],
+        // 19 is given of a board that was accepted.
+        (compare_kind::REFUSED, _) if number != 19 => [true, false],
+        _ => [true, true],
+    }
+}
+
+/// A case's two boards, the kept one first.
+fn kept_and_later(case: &Case) -> (Board<'_>, Board<'_>) {
+    let own = Board { words: &case.words, verdicts: &case.verdicts };
+    let other = Board { words: &case.other.0, verdicts: &case.other.1 };
+    if case.kept {
+        (own, other)
+    } else {
+        (other, own)
+    }
+}
+
+/// Calls the ancestry, and the reference beside it. The lengths are of the index table, the ballot
+/// table, the list and the answer. None where the library has no such entry.
+pub fn call_ancestry<'a>(
+    with: &Interface,
+    case: &'a Case,
+    lengths: [usize; 4],
+    random: &mut Random,
+    tally: &mut Tally,
+) -> Option<Call<'a>> {
+    let entry = with.ancestry?;
+    let [mut index, mut ballots, mut list, mut answer] = lengths.map(|len| Buffer::new(len, random));
+    let number = asked(item_count(case), random);
+    let enough = answer.len() >= ANCESTRY_ANSWER;
+    let (words, verdicts) = (&case.words, &case.verdicts);
+    if enough {
+        let expected =
+            ancestry(words, verdicts, number, &mut index.reference, &mut ballots.reference, &mut list.reference);
+        put(&mut answer, &ancestry_words(&expected));
+        tally[expected.number as usize] += 1;
+    } else {
+        tally[23] += 1;
+    }
+    let (il, bl, ll, al) = (index.len(), ballots.len(), list.len(), answer.len());
+    #[rustfmt::skip]
+    let given = unsafe {
+        entry(
+            words.as_ptr(), words.len(), verdicts.as_ptr(), verdicts.len(), number,
+            index.pointer(), il, ballots.pointer(), bl, list.pointer(), ll, answer.pointer(), al)
+    };
+    // 19 is given of a board that was accepted.
+    let accepted = enough && matches!(answer.given()[ancestry_answer::NUMBER], 0 | 19);
+    let boards = vec![Passed { words, accepted, index: 2 }];
+    let buffers = vec![(answer, "answer"), (list, "list"), (index, "index table"), (ballots, "ballot table")];
+    Some(Call { entry: format!("ancestry of item {number}"), given, expected: enough, buffers, boards })
+}
+
+// ---- the numbers that are asked for ----
+
+/// A number to ask for: mostly one that exists, at times none, past the end, or past 32 bits.
+fn asked(count: usize, random: &mut Random) -> usize {
+    match random.below(16) {
+        0 => 0,
+        1 => count + 1,
+        2 => usize::MAX,
+        3 => (1 << 32) + random.between(0, count),
+        4 => random.below(4_000),
+        5 => 1,
+        6 | 7 => count,
+        _ => random.between(1, count.max(1)),
+    }
+}
+
+/// A rough count of a board's items, to ask for numbers near it.
+fn item_count(case: &Case) -> usize {
+    case.verdicts.len() / VERDICT_WORDS
+}
+
+/// A main number to compare at: often the one at which the kept board's end can stand.
+fn asked_main(kept: Board, later: Board, random: &mut Random) -> usize {
+    if random.chance(50) {
+        main_count(kept.words)
+    } else {
+        asked(main_count(later.words), random)
+    }
+}
+
+/// The main items by a walk over the heads, as far as it goes.
+fn main_count(words: &[u32]) -> usize {
+    let (mut place, mut mains) = (0, 0);
+    while place < words.len() && kind(words[place]) != CLOSING {
+        mains += usize::from(kind(words[place]) == MAIN);
+        place += count(words[place]) + FRAME;
+    }
+    mains
+}
+
+// ---- buffers ----
+
+const GUARD: usize = 8;
+
+/// A buffer with guard words on both sides, and what the reference makes of the same words.
+struct Buffer {
+    guarded: Vec<u32>,
+    before: Vec<u32>,
+    reference: Vec<u32>,
+}
+
+impl Buffer {
+    fn new(len: usize, random: &mut Random) -> Buffer {
+        // Junk that differs from word to word, at little cost.
+        let mut word = random.word() | 1;
+        let guarded: Vec<u32> = (0..len + 2 * GUARD)
+            .map(|_| {
+                word = word.wrapping_mul(0x0019_660d).wrapping_add(0x3c6e_f35f);
+                word
+            })
+            .collect();
+        Buffer { before: guarded.clone(), reference: guarded[GUARD..GUARD + len].to_vec(), guarded }
+    }
+
+    fn len(&self) -> usize {
+        self.reference.len()
+    }
+
+    fn pointer(&mut self) -> *mut u32 {
+        self.guarded[GUARD..].as_mut_ptr()
+    }
+
+    /// The words between the guards, as the implementation left them.
+    fn given(&self) -> &[u32] {
+        &self.guarded[GUARD..GUARD + self.len()]
+    }
+
+    fn same(&self, what: &str) -> Result<(), String> {
+        let end = GUARD + self.len();
+        if self.guarded[..GUARD] != self.before[..GUARD] {
+            return Err(format!("a word before the {what} was written"));
+        }
+        if self.guarded[end..] != self.before[end..] {
+            return Err(format!("a word behind the {what} was written"));
+        }
+        let given = self.given();
+        match given.iter().zip(&self.reference).position(|(a, b)| a != b) {
+            None => Ok(()),
+            Some(at) => Err(format!(
+                "word {at} of the {what} ({} words) is {}, by the reference {}",
+                self.len(),
+                given[at],
+                self.reference[at]
+            )),
+        }
+    }
+}
+
+/// Writes the reference's answer where the interface would.
+fn put(answer: &mut Buffer, words: &[u32]) {
+    answer.reference[..words.len()].copy_from_slice(words);
+}
