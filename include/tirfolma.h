@@ -53,7 +53,7 @@ enum {
 };
 
 /* The word for no item, in an index row. */
-#define TIRFOLMA_NO_ITEM 4294967295
+#define TIRFOLMA_NO_ITEM 4294967295u
 
 /* Where the words of a ballot row stand. */
 enum {

@@ -63,7 +63,8 @@ fn number_word(number: usize) -> u32
     number as u32
 }
 
-// The word at a column of the row of item number k.
+// The word at a column of the row of item number k. `parent`, `mains_before` and `closer` read that and no word of the board, which stands
+// in their contracts only.
 fn word(index: &[u32], k: usize, column: usize) -> u32
     requires { ⌜ (1 ≤ k) × (k ≤ itemLimit) × (column < indexRow) × (indexNeed ≤ length (now index)) ⌝ }
     ensures { λ r. ⌜ r ≡ rowWord (now (index .entry)) k column ⌝ }
@@ -86,7 +87,7 @@ pub fn entry(board: &[u32], index: &[u32], count: usize, k: usize) -> Known
     }
 }
 
-// The number of the parent of item number k of the first count. The board is not read.
+// The number of the parent of item number k of the first count.
 pub fn parent(board: &[u32], index: &[u32], count: usize, k: usize) -> usize
     requires { ⌜ Kept (now board) (now index) count ⌝ }
     requires { ⌜ (1 ≤ k) × (k ≤ count) ⌝ }

@@ -127,9 +127,10 @@ fn value(written: &str, above: &[(&str, usize)]) -> Option<usize> {
     product.split('*').map(str::trim).map(|factor| number(factor).or_else(|| named(factor))).product()
 }
 
-/// A number in decimal. One that begins with another 0 is octal in C.
+/// A number in decimal, unsigned where it ends with `u`. One that begins with another 0 is octal in C.
 fn number(written: &str) -> Option<usize> {
-    written.parse().ok().filter(|number: &usize| number.to_string() == written)
+    let digits = written.strip_suffix('u').unwrap_or(written);
+    digits.parse().ok().filter(|number: &usize| number.to_string() == digits)
 }
 
 // ---- headers with a mistake ----
