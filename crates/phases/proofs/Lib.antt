@@ -2,4 +2,5 @@
 pub mod Results
 pub mod Standing
 pub mod Voter
+pub mod Opened
 pub mod Once

@@ -28,7 +28,10 @@ pub fn phase_ok(board: &[u32], index: &[u32], sessions: &[u32], s: State, c: Kno
     if !phase::latest_ok(board, index, sessions, s, c) {
         return false;
     }
-    phase::intent_ok(board, index, s, c)
+    if !phase::intent_ok(board, index, s, c) {
+        return false;
+    }
+    phase::spoiled_ok(board, index, s, c)
 }
 
 // 12 second.

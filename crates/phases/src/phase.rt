@@ -1,7 +1,8 @@
-// Check 11, sentence by sentence: what may stand when. Paper: "Phases".
+// Check 11, sentence by sentence: what may stand when. Paper: "Phases", request (iv).
 ghost use mathlib.Core.Path.{_≡_};
+ghost use Prim.Native.Nat.{_≤_};
 ghost use Rattle.model.specs.History.{itemNo, sessionVoter};
-ghost use Rattle.model.specs.Phase.{extractionOk, openOk, standingOk, latestOk, intentOk};
+ghost use Rattle.model.specs.Phase.{extractionOk, openOk, standingOk, latestOk, intentOk, isSpoiled, spoiledOk};
 ghost use Rattle.index.specs.Kept.{before, itemAfter, Kept};
 ghost use Rattle.lookup.specs.Buckets.{sessionChain};
 ghost use Rattle.state.specs.Stands.{AtItem};
@@ -71,6 +72,36 @@ pub fn intent_ok(board: &[u32], index: &[u32], s: State, c: Known) -> bool
         return true;
     }
     s.threshold != 0
+}
+
+// Request (iv): "A voter opening now needs an earlier spoil request in the file under the same ballot." Its parent is the verifier, whose
+// parent is the track's start, whose parent is the ballot.
+pub fn spoiled_ok(board: &[u32], index: &[u32], s: State, c: Known) -> bool
+    requires { ⌜ AtItem (now board) (now index) s c ⌝ }
+    ensures { λ r. ⌜ r ≡ spoiledOk (before (now (board .entry)) (s .items)) (itemAfter (now (board .entry)) (s .items)) ⌝ }
+{
+    if c.item.head.code != Head::VOTER_OPENING {
+        return true;
+    }
+    if c.parent == 0 {
+        return false;
+    }
+    let start = index::parent(board, index, s.items, c.parent);
+    let ballot = index::parent(board, index, s.items, start);
+    is_spoiled(board, index, s.items, ballot)
+}
+
+// Whether a spoil stands under item number k of the first count: the item's row says what closed it.
+fn is_spoiled(board: &[u32], index: &[u32], count: usize, k: usize) -> bool
+    requires { ⌜ Kept (now board) (now index) count ⌝ }
+    requires { ⌜ (1 ≤ k) × (k ≤ count) ⌝ }
+    ensures { λ r. ⌜ r ≡ isSpoiled (before (now (board .entry)) count) k ⌝ }
+{
+    let closer = index::closer(board, index, count, k);
+    if closer == 0 {
+        return false;
+    }
+    index::entry(board, index, count, closer).item.head.code == Head::SPOIL
 }
 
 // The voter of a session, of the first count items; 0 where there is no session.

@@ -2,3 +2,4 @@
 pub mod Samples
 pub mod SampleBoard
 pub mod SampleElection
+pub mod SampleTrack

@@ -28,11 +28,11 @@ use Rattle.model.proofs.Acceptance.{accepted↔sound}
 use Rattle.model.proofs.Unchecked.{length-history, accepted-history}
 
 -- the last word, eight times over: of an item's hashed words that is the low word of its time
-abbrev toy : Format
+abbrev pub toy : Format
 toy = secp256r1 (λ ws. replicate 8 (getD ws (length ws - 1) 0))
 
 -- an item: its head and content, and eight times each the times of its parent, of the item before it and of itself
-abbrev item : ℕ → List ℕ → ℕ → ℕ → ℕ → Item
+abbrev pub item : ℕ → List ℕ → ℕ → ℕ → ℕ → Item
 item head content parent previous time = record {
   head = head;
   content = content;
@@ -53,7 +53,7 @@ pub record Signed : Type 0 where
   pub under : ℕ
 
 infix 80 _by_
-abbrev _by_ : Item → ℕ → Signed
+abbrev pub _by_ : Item → ℕ → Signed
 i by k = record { item = i; under = k }
 
 -- the keys of administrator, ballot box, authorizer, voter and verifier are 1 to 5. Item n has the time n.
@@ -100,7 +100,7 @@ abbrev pub verdicts : List ℕ
 verdicts = verdictsIn election
 
 -- how many items an accepted board has
-items-in : Outcome → ℕ
+unfoldable pub items-in : Outcome → ℕ
 items-in (unread n) = 0
 items-in (refused n k) = 0
 items-in (accepted h) = length h

@@ -57,17 +57,37 @@ intent-ok-requires c κs = search needs
 returns-5 : tie.Need-returns-5
 unfolding phaseOk
 returns-5 c =
-    let e1 = c .before .before .before .before .before .before .before in
-    let e2 = c .before .before .before .before .before in
-    let e3 = c .before .before .before in
-    let e4 = c .before in
+    let e1 = c .before .before .before .before .before .before .before .before in
+    let e2 = c .before .before .before .before .before .before in
+    let e3 = c .before .before .before .before in
+    let e4 = c .before .before in
     rw (
       met (e1 .before .extraction-ok .ensures) (e1 .if1 .left),
       met (e2 .before .open-ok .ensures) (e2 .if2 .left),
       met (e3 .before .standing-ok .ensures) (e3 .if3 .left),
       met (e4 .before .latest-ok .ensures) (e4 .if4 .left),
+      unmet (c .before .intent-ok .ensures) (c .if5 .taken),
     )
-    (c .intent-ok .ensures)
+
+spoiled-ok-requires : tie.Need-spoiled-ok-requires
+spoiled-ok-requires c κs = search needs
+
+returns-6 : tie.Need-returns-6
+unfolding phaseOk
+returns-6 c =
+    let e1 = c .before .before .before .before .before .before .before .before .before in
+    let e2 = c .before .before .before .before .before .before .before in
+    let e3 = c .before .before .before .before .before in
+    let e4 = c .before .before .before in
+    let e5 = c .before in
+    rw (
+      met (e1 .before .extraction-ok .ensures) (e1 .if1 .left),
+      met (e2 .before .open-ok .ensures) (e2 .if2 .left),
+      met (e3 .before .standing-ok .ensures) (e3 .if3 .left),
+      met (e4 .before .latest-ok .ensures) (e4 .if4 .left),
+      met (e5 .before .intent-ok .ensures) (e5 .if5 .left),
+    )
+    (c .spoiled-ok .ensures)
 
 pub phase-ok-spec : {M : Type 1} → statement M
 phase-ok-spec =
@@ -82,4 +102,6 @@ phase-ok-spec =
     latest-ok-requires
     returns-4
     intent-ok-requires
-    returns-5)
+    returns-5
+    spoiled-ok-requires
+    returns-6)
