@@ -19,7 +19,7 @@ use Rattle.model.specs.Types.{table}
 use Rattle.model.specs.History.{History, Entry, entry, itemNo, typed, first, parentNumber, entryOf, childOf, castOrSpoil, closer}
 use Rattle.model.specs.Only.{underBallotOk}
 use Rattle.model.specs.Sound.{Meets, Passed}
-use Rattle.model.proofs.Tests.{by-test, passes, is-true, is-false, and-iff, implies-iff, not-iff}
+use Rattle.model.proofs.Tests.{by-test, is-true, is-false, and-iff, implies-iff, not-iff}
 use Rattle.model.proofs.Rules.{only-rules}
 use Rattle.model.proofs.Numbers.{entry-append, first-found, first-bound, first-within}
 use Rattle.model.proofs.State.{first-snoc, any-first}

@@ -17,7 +17,7 @@ use Rattle.model.specs.Codes.{ballotType, castType, spoilType, trackType
 use Rattle.model.specs.Format.{Format}
 use Rattle.model.specs.Item.{Item, code}
 use Rattle.model.specs.Types.{table}
-use Rattle.model.specs.History.{History, Entry, entry, itemNo, typed, first, mainNumber, parentNumber, childOf, closer}
+use Rattle.model.specs.History.{History, Entry, entry, itemNo, main, typed, first, mainNumber, parentNumber, childOf, closer}
 use Rattle.model.specs.Counted.{Vote, voteOf, counted}
 use Rattle.model.specs.Phase.{extractionOk, openOk, standingOk, latestOk, intentOk, trackBallot, isSpoiled, spoiledOk, phaseOk}
 use Rattle.model.specs.Sound.{Passed}
@@ -144,12 +144,12 @@ module _ {f : Format} {ws vs : List ℕ} {h : History} (p : Passed f ws vs h) wh
 
   -- ballots with the same main number are one
   one-ballot : (j k : ℕ) → code (itemNo h j) ≡ ballotType → code (itemNo h k) ≡ ballotType → mainNumber h j ≡ mainNumber h k → j ≡ k
-  one-ballot j k a b =
-      let (oj, lj) = entry-inside h j (omega arith) in
-      let (ok, lk) = entry-inside h k (omega arith) in
-      one-main h j k lj lk
-      (typed-main (fine-at (orderly p) j oj lj) ballotType (omega arith) (eq→eqb _ _ a))
-      (typed-main (fine-at (orderly p) k ok lk) ballotType (omega arith) (eq→eqb _ _ b))
+  one-ballot j k a b = one-main h j k (λ l. is-main j a) (λ l. is-main k b)
+    where
+      is-main : (n : ℕ) → code (itemNo h n) ≡ ballotType → T (main (entry h n))
+      is-main n c =
+          let (one, all) = entry-inside h n (omega arith) in
+          typed-main (fine-at (orderly p) n one all) ballotType (omega arith) (eq→eqb _ _ c)
 
   -- so no cast stands under it
   pub opened-uncast : (o c : ℕ) → code (itemNo h o) ≡ voterOpeningType → code (itemNo h c) ≡ castType → entry h c .parent ≢ ballot o
