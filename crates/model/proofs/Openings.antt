@@ -66,7 +66,7 @@ module _ (h : History) (i : Item) where
       let range = simp facts at t in
       rw (
         is-true (between 48 51 (code i)) t,
-        or-true (between 32 34 (code i)),
+        or-true,
         is-false (between 16 21 (code i)) (λ q. let r = simp facts at q in omega arith),
         is-false (between 17 21 (code i)) (λ q. let r = simp facts at q in omega arith),
         ne-eqb (code i) 16 (λ q. omega arith),
