@@ -1,8 +1,7 @@
 //! The ancestry of an item: its number, its parent's, and so on up to genesis.
 
-use crate::audit::{audit_with, History};
+use crate::audit::{audit_with, History, Rules, RULES};
 use crate::format::{LIST_NEED, MAX_WORDS};
-use crate::sha256::{sha256, Hash};
 
 /// The answer: 0 and how many numbers were written, or a refusal and the items passed.
 #[derive(Clone, Copy, PartialEq, Eq, Debug)]
@@ -19,11 +18,11 @@ pub fn ancestry(
     ballots: &mut [u32],
     list: &mut [u32],
 ) -> Ancestry {
-    ancestry_with(sha256, board, verdicts, item_number, index, ballots, list)
+    ancestry_with(RULES, board, verdicts, item_number, index, ballots, list)
 }
 
 pub fn ancestry_with(
-    hash: Hash,
+    rules: Rules,
     board: &[u32],
     verdicts: &[u32],
     item_number: usize,
@@ -35,7 +34,7 @@ pub fn ancestry_with(
     if list.len() < LIST_NEED && board.len() <= MAX_WORDS {
         return Ancestry { number: 2, count: 0 };
     }
-    let (report, history) = audit_with(hash, board, verdicts, index, ballots);
+    let (report, history) = audit_with(rules, board, verdicts, index, ballots);
     let before_reading = board.len() > MAX_WORDS || report.number == 2;
     if before_reading {
         return Ancestry { number: report.number, count: 0 };

@@ -56,6 +56,32 @@ pub struct Counted {
     pub weight: u32,
 }
 
+/// The rules that can be put otherwise: a weak hash shows collisions, and a wrong reading of when a ballot
+/// may be opened tries the checks.
+#[derive(Clone, Copy)]
+pub struct Rules {
+    pub hash: Hash,
+    pub may_open: fn(&Opening) -> bool,
+}
+
+/// As the paper has them.
+pub const RULES: Rules = Rules { hash: sha256, may_open: is_spoiled };
+
+/// A voter opening in hand.
+pub struct Opening<'a> {
+    pub board: &'a [u32],
+    /// The items before it.
+    pub history: &'a History,
+    /// The item number of the ballot that its track hangs on.
+    pub ballot: usize,
+    pub time: u64,
+}
+
+/// A spoil stands under the ballot already.
+pub fn is_spoiled(opening: &Opening) -> bool {
+    opening.history.has_under(opening.ballot, SPOIL)
+}
+
 /// What the items passed so far have established. Items are numbered from 1.
 #[derive(Default)]
 pub struct History {
@@ -95,6 +121,10 @@ impl History {
     }
     pub fn counted(&self) -> &[Counted] {
         &self.counted
+    }
+    /// Whether an item of a type stands under the one with this number.
+    pub fn has_under(&self, number: usize, code: u32) -> bool {
+        self.item(number).children & (1 << code) != 0
     }
     fn last_main(&self) -> Option<&Item> {
         self.mains.last().map(|&number| self.item(number))
@@ -142,14 +172,14 @@ pub fn hashed<'a>(board: &'a [u32], item: &Item) -> &'a [u32] {
     &board[item.place..item.place + item.count + HASHED_FRAME]
 }
 
-/// The audit with SHA-256.
+/// The audit by the rules as they are.
 pub fn audit(board: &[u32], verdicts: &[u32], index: &mut [u32], ballots: &mut [u32]) -> Report {
-    audit_with(sha256, board, verdicts, index, ballots).0
+    audit_with(RULES, board, verdicts, index, ballots).0
 }
 
-/// The audit with any hash; the history where the board is accepted.
+/// The audit by any rules; the history where the board is accepted.
 pub fn audit_with(
-    hash: Hash,
+    rules: Rules,
     board: &[u32],
     verdicts: &[u32],
     index: &mut [u32],
@@ -163,7 +193,7 @@ pub fn audit_with(
     }
     index.fill(0);
     ballots.fill(0);
-    match walk(hash, board, verdicts) {
+    match walk(rules, board, verdicts) {
         Err(refusal) => (refused(refusal.number, refusal.items), None),
         Ok(history) => {
             write_index(&history, index);
@@ -225,7 +255,7 @@ fn write_ballots(history: &History, ballots: &mut [u32]) {
 }
 
 /// Refusals 3 and up.
-fn walk(hash: Hash, board: &[u32], verdicts: &[u32]) -> Result<History, Refusal> {
+fn walk(rules: Rules, board: &[u32], verdicts: &[u32]) -> Result<History, Refusal> {
     if board.is_empty() || kind(board[0]) == CLOSING {
         return Err(Refusal { number: 3, items: 0 });
     }
@@ -259,7 +289,7 @@ fn walk(hash: Hash, board: &[u32], verdicts: &[u32]) -> Result<History, Refusal>
             return refuse(4);
         }
         let item = Candidate::at(board, place);
-        let checked = check(hash, board, &history, &item, verdicts);
+        let checked = check(rules, board, &history, &item, verdicts);
         let (parent, session) = match checked {
             Ok(found) => found,
             Err(number) => return refuse(number),
@@ -271,7 +301,7 @@ fn walk(hash: Hash, board: &[u32], verdicts: &[u32]) -> Result<History, Refusal>
 
 /// Checks 7 to 16 of one item. Gives the item numbers of its parent and session.
 fn check(
-    hash: Hash,
+    rules: Rules,
     board: &[u32],
     history: &History,
     item: &Candidate,
@@ -280,7 +310,7 @@ fn check(
     let number = history.items() + 1;
 
     // 7: the address.
-    if hash(item.hashed) != item.address {
+    if (rules.hash)(item.hashed) != item.address {
         return Err(7);
     }
     // 8: the previous item.
@@ -306,13 +336,13 @@ fn check(
         GENESIS => None,
         _ => history.item(parent).session,
     };
-    if !in_phase(history, board, item, session) {
+    if !in_phase(history, board, item, session) || !opens_in_phase(rules, history, board, item, parent) {
         return Err(11);
     }
     if is_second(history, item, parent) {
         return Err(12);
     }
-    if !content_fits(hash, history, board, item, session) {
+    if !content_fits(rules.hash, history, board, item, session) {
         return Err(13);
     }
     // 14: nine verdict words.
@@ -376,9 +406,20 @@ fn in_phase(history: &History, board: &[u32], item: &Candidate, session: Option<
     true
 }
 
+/// 11 as well: a voter opens a ballot that has been spoiled. The opening's parent is a verifier, the
+/// verifier's a track start, and that one's the ballot. No other hidden item depends on a phase.
+fn opens_in_phase(rules: Rules, history: &History, board: &[u32], item: &Candidate, parent: usize) -> bool {
+    if item.code != VOTER_OPENING {
+        return true;
+    }
+    let track = history.item(parent).parent;
+    let ballot = history.item(track).parent;
+    (rules.may_open)(&Opening { board, history, ballot, time: item.time })
+}
+
 /// 12: only one.
 fn is_second(history: &History, item: &Candidate, parent: usize) -> bool {
-    let under = |code: u32| history.item(parent).children & (1 << code) != 0;
+    let under = |code: u32| history.has_under(parent, code);
     match item.code {
         GENESIS => history.genesis,
         THRESHOLD => history.threshold.is_some(),

@@ -1,6 +1,6 @@
 //! Collisions, with a hash so weak that they can be made: what SHA-256 will not show.
 
-use crate::audit::audit_with;
+use crate::audit::{audit_with, Rules, RULES};
 use crate::closed::check_closed;
 use crate::compare::{compare_with, Board, Comparison, Tables};
 use crate::format::*;
@@ -19,11 +19,13 @@ pub fn weak_hash(message: &[u32]) -> [u32; 8] {
     [(sum >> 19) + 1, 0, 0, 0, 0, 0, 0, 7]
 }
 
+const WEAK_RULES: Rules = Rules { hash: weak_hash, ..RULES };
+
 /// Audits a board. Gives the number, and the index table.
 fn run(laid: &Laid) -> (u32, Vec<u32>) {
     let mut index = vec![3; INDEX_NEED];
     let mut ballots = vec![4; BALLOTS_NEED];
-    let (report, _) = audit_with(weak_hash, &laid.words, &laid.verdicts, &mut index, &mut ballots);
+    let (report, _) = audit_with(WEAK_RULES, &laid.words, &laid.verdicts, &mut index, &mut ballots);
     (report.number, index)
 }
 
@@ -31,7 +33,7 @@ fn compare_laid(kept: &Laid, later: &Laid, main_number: usize) -> Comparison {
     let (mut i1, mut b1) = (vec![1; INDEX_NEED], vec![1; BALLOTS_NEED]);
     let (mut i2, mut b2) = (vec![2; INDEX_NEED], vec![2; BALLOTS_NEED]);
     compare_with(
-        weak_hash,
+        WEAK_RULES,
         Board { words: &kept.words, verdicts: &kept.verdicts },
         Board { words: &later.words, verdicts: &later.verdicts },
         main_number,

@@ -1,7 +1,6 @@
 //! Comparing a kept board with a later one.
 
-use crate::audit::{audit_with, hashed};
-use crate::sha256::{sha256, Hash};
+use crate::audit::{audit_with, hashed, Rules, RULES};
 
 #[derive(Clone, Copy, PartialEq, Eq, Debug)]
 pub enum Side {
@@ -39,22 +38,22 @@ pub struct Tables<'a> {
 }
 
 pub fn compare(kept: Board, later: Board, main_number: usize, kept_tables: Tables, later_tables: Tables) -> Comparison {
-    compare_with(sha256, kept, later, main_number, kept_tables, later_tables)
+    compare_with(RULES, kept, later, main_number, kept_tables, later_tables)
 }
 
 pub fn compare_with(
-    hash: Hash,
+    rules: Rules,
     kept: Board,
     later: Board,
     main_number: usize,
     kept_tables: Tables,
     later_tables: Tables,
 ) -> Comparison {
-    let (report, history) = audit_with(hash, kept.words, kept.verdicts, kept_tables.index, kept_tables.ballots);
+    let (report, history) = audit_with(rules, kept.words, kept.verdicts, kept_tables.index, kept_tables.ballots);
     let Some(kept_history) = history else {
         return Comparison::Refused { side: Side::Kept, number: report.number, items: report.items };
     };
-    let (report, history) = audit_with(hash, later.words, later.verdicts, later_tables.index, later_tables.ballots);
+    let (report, history) = audit_with(rules, later.words, later.verdicts, later_tables.index, later_tables.ballots);
     let Some(later_history) = history else {
         return Comparison::Refused { side: Side::Later, number: report.number, items: report.items };
     };

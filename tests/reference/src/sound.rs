@@ -31,6 +31,21 @@ pub struct Row {
     pub closed_by: u32,
 }
 
+impl Row {
+    /// The position of the cast or spoil under it.
+    pub fn closer(&self) -> Option<usize> {
+        (self.closed_by != NO_ITEM).then(|| self.closed_by as usize - 1)
+    }
+}
+
+/// The position of the ballot that a track hangs on, from an item of the track or the ballot itself.
+pub fn ballot_of(items: &[Spec], rows: &[Row], position: usize) -> usize {
+    match items[position].code {
+        BALLOT => position,
+        _ => ballot_of(items, rows, rows[position].parent as usize - 1),
+    }
+}
+
 /// The audit's answer to a sound board, as known from its making.
 #[derive(Clone, Debug, Default)]
 pub struct Expected {
@@ -422,7 +437,9 @@ impl Maker<'_> {
             }
             return;
         }
-        if choice < 18 && self.hidden_step() {
+        // A spoiled ballot is often opened without delay.
+        let hidden = if self.items.last().is_some_and(|s| s.code == SPOIL) { 60 } else { 18 };
+        if choice < hidden && self.hidden_step() {
             return;
         }
         if self.rounds.is_empty() {
@@ -538,21 +555,40 @@ impl Maker<'_> {
         }
     }
 
+    /// Whether the ballot that a track hangs on is spoiled, from an item of the track or the ballot itself.
+    fn is_spoiled(&self, position: usize) -> bool {
+        let ballot = ballot_of(&self.items, &self.expected.rows, position);
+        self.expected.rows[ballot].closer().is_some_and(|closer| self.items[closer].code == SPOIL)
+    }
+
+    /// Items that may get a child of a hidden track, by the child's stage in it. A voter opens no ballot
+    /// but a spoiled one.
+    fn tracked(&mut self) -> [Vec<usize>; 4] {
+        let openable = self.verifiers.iter().copied().filter(|&verifier| self.is_spoiled(verifier)).collect();
+        let mut lists = [self.untracked.clone(), self.tracks.clone(), openable, self.opened.clone()];
+        // Half of the time a spoiled ballot's track goes on, so that openings are not rare.
+        if self.random.chance(50) && lists.iter().flatten().any(|&parent| self.is_spoiled(parent)) {
+            lists = lists.map(|list| list.into_iter().filter(|&parent| self.is_spoiled(parent)).collect());
+        }
+        lists
+    }
+
     /// One more item of a hidden track; false where none can follow.
     fn hidden_step(&mut self) -> bool {
-        let lists = [&self.untracked, &self.tracks, &self.verifiers, &self.opened];
-        let possible: Vec<usize> = (0..4).filter(|&i| !lists[i].is_empty()).collect();
+        let lists = self.tracked();
+        let possible: Vec<usize> = (0..4).filter(|&stage| !lists[stage].is_empty()).collect();
         if possible.is_empty() {
             return false;
         }
         let stage = *self.random.pick(&possible);
-        let list = match stage {
+        let parent = *self.random.pick(&lists[stage]);
+        let waiting = match stage {
             0 => &mut self.untracked,
             1 => &mut self.tracks,
             2 => &mut self.verifiers,
             _ => &mut self.opened,
         };
-        let parent = Self::take(self.random, list);
+        waiting.retain(|&position| position != parent);
         let earliest = self.items[parent].time;
         let time = match self.random.below(5) {
             0 => earliest,

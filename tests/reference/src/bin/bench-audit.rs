@@ -13,7 +13,7 @@
 //! Ends with status 1 where the library misses a bar: the reference's time on every board, and
 //! one and a half times the hashes alone on boards of 2,048 items.
 
-use reference::audit::{audit_with, hashed};
+use reference::audit::{audit_with, hashed, RULES};
 use reference::format::*;
 use reference::interface::{audit_answer, library, AUDIT_ANSWER};
 use reference::plan::Laid;
@@ -86,7 +86,7 @@ fn main() {
 fn row(items: usize, board: &Laid) -> bool {
     let (words, verdicts) = (&board.words, &board.verdicts);
     let (mut index, mut ballots) = (vec![7; INDEX_NEED], vec![7; BALLOTS_NEED]);
-    let (report, history) = audit_with(sha256, words, verdicts, &mut index, &mut ballots);
+    let (report, history) = audit_with(RULES, words, verdicts, &mut index, &mut ballots);
     assert_eq!(report.number, 0, "the board is sound");
     let history = history.expect("a history");
     let mut answer = [0u32; AUDIT_ANSWER];
@@ -97,7 +97,7 @@ fn row(items: usize, board: &Laid) -> bool {
     while rounds < 20 || (start.elapsed().as_secs_f64() < 2.0 && rounds < 5_000) {
         rounds += 1;
         let run = now();
-        black_box(audit_with(sha256, black_box(words), verdicts, &mut index, &mut ballots).0);
+        black_box(audit_with(RULES, black_box(words), verdicts, &mut index, &mut ballots).0);
         by_reference.push(now() - run);
         let run = now();
         for number in 1..=history.items() {

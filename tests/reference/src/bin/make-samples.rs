@@ -5,7 +5,7 @@ use reference::plan::{Laid, Plan};
 use reference::program::{bytes, program};
 use reference::random::Random;
 use reference::sha256::sha256;
-use reference::sound::{make, Made, Shape};
+use reference::sound::{ballot_of, make, Made, Shape};
 use std::fs;
 use std::path::Path;
 
@@ -46,9 +46,27 @@ fn main() {
     let mut truncated = laid.clone();
     truncated.words.truncate(laid.words.len() * 2 / 3);
     write(folder, "truncated", &truncated);
+
+    // The opened ballot is cast, not spoiled.
+    let opening = first_opening(&made).expect("the election has an opening");
+    let ballot = ballot_of(&made.plan.items, &made.expected.rows, opening);
+    let spoil = made.expected.rows[ballot].closer().expect("the opened ballot is spoiled");
+    let mut plan = made.plan.clone();
+    plan.items[spoil].code = CAST;
+    write(folder, "opening-beside-cast", &plan.lay(sha256));
+
+    // The spoil stands just behind the opening; no time goes backward.
+    let mut plan = made.plan.clone();
+    let mut moved = plan.items[spoil].clone();
+    let before = &plan.items[..opening];
+    moved.time = before.iter().rev().find(|s| s.kind == MAIN).expect("a genesis").time;
+    plan.insert(opening + 1, moved);
+    plan.remove(spoil, 0);
+    write(folder, "opening-before-spoil", &plan.lay(sha256));
 }
 
-/// An election with counted ballots, a spoiled one, a whole hidden track and an extraction.
+/// An election with counted ballots, a spoiled one that is opened while votes are still cast, a whole hidden
+/// track and an extraction.
 fn election() -> Made {
     for seed in 1.. {
         let shape = Shape { items: 48, words: None, long: 0, voters: 5, extraction: true };
@@ -58,12 +76,18 @@ fn election() -> Made {
         let recast = casts > made.expected.ballots.len();
         let small_weights = made.expected.ballots.iter().all(|row| row[2] < 10 && row[1] < 1000);
         let year_2026 = made.plan.items[0].time > 1_700_000_000_000;
-        let whole = [SPOIL, SERVER_OPENING, CONFIRMATION].iter().all(|&code| has(code) > 0);
-        if whole && recast && small_weights && year_2026 && made.expected.ballots.len() >= 3 {
+        let whole = [SERVER_OPENING, CONFIRMATION].iter().all(|&code| has(code) > 0);
+        let opened_early = first_opening(&made).is_some_and(|at| made.plan.items[at..].iter().any(|s| s.code == CAST));
+        if whole && opened_early && recast && small_weights && year_2026 && made.expected.ballots.len() >= 3 {
             return made;
         }
     }
     unreachable!()
+}
+
+/// The position of the first voter opening.
+fn first_opening(made: &Made) -> Option<usize> {
+    made.plan.items.iter().position(|s| s.code == VOTER_OPENING)
 }
 
 fn position(made: &Made, fits: impl Fn(usize) -> bool) -> usize {
