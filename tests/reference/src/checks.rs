@@ -4,7 +4,7 @@
 use crate::audit::{audit, refused, Report};
 use crate::calls::{call_ancestry, call_audit, call_compare, Tally};
 use crate::closed::{check_closed, PROPERTIES};
-use crate::crowded::{crowded, most_ballots};
+use crate::crowded::{crowded, most_ballots, Fate};
 use crate::damage::{damage_plan, damage_words, no_board};
 use crate::faults::{faults, rank, spoil_more, Fault};
 use crate::format::*;
@@ -54,7 +54,7 @@ pub enum Group {
     Long,
     /// As many counted ballots as there can be, or nearly.
     Full,
-    /// As many ballots as there can be, closed or open by turns.
+    /// As many ballots as there can be, closed, open or opened by turns.
     Ballots,
 }
 
@@ -196,9 +196,9 @@ pub fn case(makers: &Makers, group: Group, seed: u64) -> Case {
         Group::Long => long_case(&name, seed, random),
         Group::Full => full_case(makers, &name, seed, random),
         Group::Ballots => {
-            let closed = seed % 2 == 0;
-            let made = most_ballots(random, closed);
-            sound_case(name(if closed { "ballots, closed" } else { "ballots, open" }), &made, random)
+            let fate = [Fate::Closed, Fate::Open, Fate::Opened][seed as usize % 3];
+            let made = most_ballots(random, fate);
+            sound_case(name(&format!("ballots, {fate:?}").to_lowercase()), &made, random)
         }
     }
 }

@@ -1,6 +1,6 @@
 //! Crowded boards from a seed: as many counted ballots as the items allow, or nearly so many
 //! with voters who cast again, so that rows of the ballot table move; and as many ballots as the
-//! items allow, closed or open.
+//! items allow, open, closed or opened.
 
 use crate::format::*;
 use crate::random::Random;
@@ -12,11 +12,13 @@ const WHOLE: [u32; 5] = [SESSION, VOTER_COMMITMENT, SERVER_COMMITMENT, BALLOT, C
 
 /// What a voter who has cast may add: ways to cast again first, then such as leave the row.
 const CAST_AGAIN: usize = 3;
-const MORE: [&[u32]; 7] = [
+const MORE: [&[u32]; 9] = [
     &[VOTER_COMMITMENT, SERVER_COMMITMENT, BALLOT, CAST],
     &[VOTER_COMMITMENT, SERVER_COMMITMENT, BALLOT, TRACK, CAST],
     &WHOLE,
     &[VOTER_COMMITMENT, SERVER_COMMITMENT, BALLOT, SPOIL],
+    &[VOTER_COMMITMENT, SERVER_COMMITMENT, BALLOT, SPOIL, TRACK, VERIFIER, VOTER_OPENING],
+    &[VOTER_COMMITMENT, SERVER_COMMITMENT, BALLOT, TRACK, VERIFIER, SPOIL, VOTER_OPENING, SERVER_OPENING],
     &[VOTER_COMMITMENT, SERVER_COMMITMENT, BALLOT],
     &[VOTER_COMMITMENT],
     &[SESSION],
@@ -34,13 +36,13 @@ struct Voter {
     number: u32,
     weight: u32,
     key: [u32; 8],
-    /// The positions of the latest session, commitments and ballot.
-    latest: [usize; 4],
+    /// The position of the latest item of each type.
+    latest: [usize; SERVER_OPENING as usize + 1],
 }
 
 impl Voter {
     fn new(number: u32) -> Voter {
-        Voter { number, weight: 0, key: ZEROS, latest: [0; 4] }
+        Voter { number, weight: 0, key: ZEROS, latest: [0; SERVER_OPENING as usize + 1] }
     }
 }
 
@@ -80,14 +82,22 @@ pub fn crowded(random: &mut Random, shape: Shape) -> Made {
     maker.finish()
 }
 
-/// A board of 2,048 items with as many ballots as there can be: all in one session, each of them
-/// closed or each of them open.
-pub fn most_ballots(random: &mut Random, closed: bool) -> Made {
+/// What becomes of each ballot of a board.
+#[derive(Clone, Copy, Debug)]
+pub enum Fate {
+    Open,
+    Closed,
+    /// Spoiled first.
+    Opened,
+}
+
+/// A board of 2,048 items with as many ballots of this fate as there can be, all in one session.
+pub fn most_ballots(random: &mut Random, fate: Fate) -> Made {
     let shape = Shape { items: MAX_ITEMS, words: None, long: 20, voters: 1, extraction: false };
     let mut maker = Maker::new(random, sha256, shape);
     maker.genesis();
     add_config(&mut maker);
-    let mut lanes = ballot_lanes(closed, maker.random);
+    let mut lanes = ballot_lanes(fate, maker.random);
     let lane_count = lanes.len();
     let steps = merge(&mut lanes, maker.random);
     let times = times(&mut maker, 1 + steps.len());
@@ -103,21 +113,32 @@ pub fn most_ballots(random: &mut Random, closed: bool) -> Made {
 }
 
 /// A lane for each ballot that there is room for behind the config and a session. What room is left
-/// goes to hidden tracks.
-fn ballot_lanes(closed: bool, random: &mut Random) -> Vec<Vec<Step>> {
-    let ways: &[u32] = if closed { *random.pick(&[&[CAST, SPOIL][..], &[CAST], &[SPOIL]]) } else { &[] };
-    let each = if closed { 4 } else { 3 };
+/// goes to hidden items.
+fn ballot_lanes(fate: Fate, random: &mut Random) -> Vec<Vec<Step>> {
+    let closers: &[u32] = *random.pick(&[&[CAST, SPOIL][..], &[CAST], &[SPOIL]]);
+    let each = match fate {
+        Fate::Open => 3,
+        Fate::Closed => 4,
+        Fate::Opened => 7,
+    };
     let room = MAX_ITEMS - 5 - 1;
-    let (count, mut left) = (room / each, room % each);
+    let (count, left) = (room / each, room % each);
     let mut lanes = Vec::new();
     for who in 0..count {
+        let more = if who < left { 1 } else { 0 };
         let mut codes = vec![VOTER_COMMITMENT, SERVER_COMMITMENT, BALLOT];
-        if left > 0 {
-            codes.push(TRACK);
-            left -= 1;
-        }
-        if closed {
-            codes.push(*random.pick(ways));
+        match fate {
+            Fate::Open => codes.extend(&[TRACK][..more]),
+            Fate::Closed => {
+                codes.extend(&[TRACK][..more]);
+                codes.push(*random.pick(closers));
+            }
+            Fate::Opened => {
+                codes.extend([TRACK, VERIFIER]);
+                codes.insert(random.between(3, 5), SPOIL);
+                codes.push(VOTER_OPENING);
+                codes.extend(&[SERVER_OPENING][..more]);
+            }
         }
         lanes.push(codes.into_iter().map(|code| (who, code)).collect());
     }
@@ -143,7 +164,7 @@ fn add_votes(maker: &mut Maker, voters: &mut [Voter], weights: Weights, steps: &
     for (&(who, code), &time) in steps.iter().zip(times) {
         let voter = &mut voters[who];
         if code == CAST {
-            casts.push((voter.latest[3], voter.number, voter.weight));
+            casts.push((voter.latest[BALLOT as usize], voter.number, voter.weight));
         }
         add_step(maker, voter, code, time, weights);
     }
@@ -268,34 +289,44 @@ fn numbers(count: usize, random: &mut Random) -> Vec<u32> {
 }
 
 fn add_step(maker: &mut Maker, voter: &mut Voter, code: u32, time: u64, weights: Weights) {
-    let (parent, content, key) = match code {
-        SESSION => {
-            voter.weight = match weights {
-                Weights::Greatest => u32::MAX,
-                Weights::Any => maker.random.word().max(1),
-                Weights::Mixed if maker.random.chance(20) => u32::MAX,
-                Weights::Mixed => maker.random.between(1, 9) as u32,
-            };
-            voter.key = maker.random.eight();
-            let mut content = vec![voter.number, voter.weight];
-            content.extend(voter.key);
-            content.extend(maker.random.eight());
-            content.push(maker.contests);
-            (maker.config, content, maker.authorizer)
-        }
-        VOTER_COMMITMENT => (voter.latest[0], maker.commitment(), voter.key),
-        SERVER_COMMITMENT => (voter.latest[1], maker.commitment(), maker.ballot_box),
+    let content = match code {
+        SESSION => new_session(maker, voter, weights),
+        VOTER_COMMITMENT | SERVER_COMMITMENT => maker.commitment(),
         BALLOT => {
             let mut content = vec![maker.contests];
             content.extend(maker.random.words(CRYPTOGRAM - 1));
             content.push(maker.random.word() & 0xffff_0000);
-            (voter.latest[2], content, voter.key)
+            content
         }
-        TRACK => (voter.latest[3], Vec::new(), maker.ballot_box),
-        _ => (voter.latest[3], Vec::new(), voter.key),
+        VERIFIER => maker.random.words(8),
+        VOTER_OPENING | SERVER_OPENING => maker.random.words(1),
+        _ => Vec::new(),
     };
-    let position = maker.add(code, parent, content, time, key);
-    if (SESSION..=BALLOT).contains(&code) {
-        voter.latest[(code - SESSION) as usize] = position;
-    }
+    let key = match code {
+        SESSION => maker.authorizer,
+        SERVER_COMMITMENT | TRACK | SERVER_OPENING => maker.ballot_box,
+        VERIFIER => eight(&content, 0),
+        _ => voter.key,
+    };
+    let parent = match parent_of(code) {
+        Parent::Type(listed) => voter.latest[listed as usize],
+        _ => maker.config,
+    };
+    voter.latest[code as usize] = maker.add(code, parent, content, time, key);
+}
+
+/// The content of a new session, whose weight and key are the voter's from now on.
+fn new_session(maker: &mut Maker, voter: &mut Voter, weights: Weights) -> Vec<u32> {
+    voter.weight = match weights {
+        Weights::Greatest => u32::MAX,
+        Weights::Any => maker.random.word().max(1),
+        Weights::Mixed if maker.random.chance(20) => u32::MAX,
+        Weights::Mixed => maker.random.between(1, 9) as u32,
+    };
+    voter.key = maker.random.eight();
+    let mut content = vec![voter.number, voter.weight];
+    content.extend(voter.key);
+    content.extend(maker.random.eight());
+    content.push(maker.contests);
+    content
 }

@@ -1,20 +1,34 @@
-//! What sound boards are to show of ballots and who closed them, as known from their making.
+//! What sound boards are to show of ballots, who closed them and who opened them, as known from their making.
 
 use crate::format::*;
-use crate::sound::{Expected, Row};
+use crate::sound::Expected;
 
-/// A ballot, and the cast or spoil under it.
+/// A ballot, the cast or spoil under it, and how far its track goes.
 struct Ballot {
     /// Item number of its session, and the voter there.
     session: u32,
     voter: u32,
     closer: Option<Closer>,
+    verified: bool,
+    opening: Option<Opening>,
 }
 
 struct Closer {
     code: u32,
     number: u32,
     main_number: u32,
+    time: u64,
+}
+
+/// A voter opening.
+struct Opening {
+    number: u32,
+    time: u64,
+    /// Whether an intent to extract stands before it, and a newer session of its voter.
+    after_intent: bool,
+    overwritten: bool,
+    /// Whether the server opened as well.
+    answered: bool,
 }
 
 /// A board's ballots in order.
@@ -24,13 +38,15 @@ pub struct Ballots(Vec<Ballot>);
 /// stand before them; with two commitments each, a closed ballot takes four items, an open one three.
 const MOST_CLOSED: usize = 510;
 const MOST_BALLOTS: usize = 680;
+/// The most opened ballots: with a spoil and three items of its track, each takes seven items.
+const MOST_OPENED: usize = 291;
 /// The number of a board's last item where there are as many as there may be.
 const LAST_ITEM: u32 = 2_048;
 
 type Shows = fn(&Ballots) -> bool;
 
 /// What there must be boards of, by a short name.
-pub const WANTED: [(&str, Shows); 8] = [
+pub const WANTED: [(&str, Shows); 19] = [
     ("cast, spoiled and two open", |b| b.any(Ballot::cast) && b.any(Ballot::spoiled) && b.open() >= 2),
     ("closed behind hidden items", |b| b.behind_hidden(CAST) && b.behind_hidden(SPOIL)),
     ("spoiled, then a new session's", |b| b.then_in_later_session(Ballot::spoiled, |_| true)),
@@ -39,6 +55,21 @@ pub const WANTED: [(&str, Shows); 8] = [
     ("closed by item 2,048", |b| b.any(|ballot| ballot.closer.as_ref().is_some_and(|c| c.number == LAST_ITEM))),
     ("510 closed", |b| b.0.len() - b.open() == MOST_CLOSED),
     ("680 open", |b| b.open() == MOST_BALLOTS),
+    ("cast, with a verifier", |b| b.any(|ballot| ballot.cast() && ballot.verified)),
+    ("left open, with a verifier", |b| b.any(|ballot| ballot.open() && ballot.verified)),
+    ("spoiled, with a verifier, not opened", |b| {
+        b.any(|ballot| ballot.spoiled() && ballot.verified && !ballot.opened())
+    }),
+    ("opened just behind the spoil", |b| b.any_opened(|opening, spoil| opening.number == spoil.number + 1)),
+    ("opened 50 items behind the spoil, or more", |b| {
+        b.any_opened(|opening, spoil| opening.number >= spoil.number + 50)
+    }),
+    ("opened after the intent to extract", |b| b.any_opened(|opening, _| opening.after_intent)),
+    ("opened in an overwritten session", |b| b.any_opened(|opening, _| opening.overwritten)),
+    ("opened at an earlier time than the spoil's", |b| b.any_opened(|opening, spoil| opening.time < spoil.time)),
+    ("opened by the voter and the server", |b| b.any_opened(|opening, _| opening.answered)),
+    ("opened beside another of the session, cast", Ballots::opened_beside_cast),
+    ("291 opened", |b| b.0.iter().filter(|ballot| ballot.opened()).count() == MOST_OPENED),
 ];
 
 impl Ballot {
@@ -51,26 +82,17 @@ impl Ballot {
     fn open(&self) -> bool {
         self.closer.is_none()
     }
+    fn opened(&self) -> bool {
+        self.opening.is_some()
+    }
 }
 
 impl Ballots {
     /// The ballots of a sound board, from its words and what is expected of them.
     pub fn new(words: &[u32], places: &[usize], expected: &Expected) -> Ballots {
-        let code_of = |number: u32| code(words[places[number as usize - 1]]);
-        let closer = |row: &Row| {
-            (row.closed_by != NO_ITEM).then(|| Closer {
-                code: code_of(row.closed_by),
-                number: row.closed_by,
-                main_number: expected.rows[row.closed_by as usize - 1].mains_before + 1,
-            })
-        };
-        let ballot = |row: &Row| Ballot {
-            session: row.session,
-            voter: words[places[row.session as usize - 1] + 1],
-            closer: closer(row),
-        };
-        let rows = (1..).zip(&expected.rows).filter(|&(number, _)| code_of(number) == BALLOT);
-        Ballots(rows.map(|(_, row)| ballot(row)).collect())
+        let items = Items { words, places, expected };
+        let all = 1..=places.len() as u32;
+        Ballots(all.filter(|&number| items.code(number) == BALLOT).map(|number| items.ballot(number)).collect())
     }
 
     fn any(&self, is: impl Fn(&Ballot) -> bool) -> bool {
@@ -86,8 +108,80 @@ impl Ballots {
         self.any(|ballot| ballot.closer.as_ref().is_some_and(|c| c.code == code && c.number != c.main_number))
     }
 
+    /// Whether there is such an opening, with such a spoil under its ballot.
+    fn any_opened(&self, is: fn(&Opening, &Closer) -> bool) -> bool {
+        self.any(|ballot| match (&ballot.opening, &ballot.closer) {
+            (Some(opening), Some(spoil)) => is(opening, spoil),
+            _ => false,
+        })
+    }
+
+    fn opened_beside_cast(&self) -> bool {
+        self.any(|a| a.opened() && self.any(|b| b.session == a.session && b.cast()))
+    }
+
     /// Whether there are two such ballots of one voter, the second in a later session.
     fn then_in_later_session(&self, first: fn(&Ballot) -> bool, second: fn(&Ballot) -> bool) -> bool {
         self.any(|a| first(a) && self.any(|b| b.voter == a.voter && b.session > a.session && second(b)))
+    }
+}
+
+/// A sound board's items by number.
+struct Items<'a> {
+    words: &'a [u32],
+    places: &'a [usize],
+    expected: &'a Expected,
+}
+
+impl Items<'_> {
+    fn place(&self, number: u32) -> usize {
+        self.places[number as usize - 1]
+    }
+    fn code(&self, number: u32) -> u32 {
+        code(self.words[self.place(number)])
+    }
+    fn time(&self, number: u32) -> u64 {
+        let place = self.place(number);
+        // The content, the parent's address and the previous item's stand between the head and the time.
+        time(self.words, place + 1 + count(self.words[place]) + 16)
+    }
+    fn voter(&self, session: u32) -> u32 {
+        self.words[self.place(session) + 1]
+    }
+
+    /// The one item of a type under another, if there is one.
+    fn under(&self, parent: u32, code: u32) -> Option<u32> {
+        (parent + 1..=self.places.len() as u32)
+            .find(|&number| self.expected.rows[number as usize - 1].parent == parent && self.code(number) == code)
+    }
+
+    fn ballot(&self, number: u32) -> Ballot {
+        let row = &self.expected.rows[number as usize - 1];
+        let verifier = self.under(number, TRACK).and_then(|track| self.under(track, VERIFIER));
+        let opening = verifier.and_then(|verifier| self.under(verifier, VOTER_OPENING));
+        Ballot {
+            session: row.session,
+            voter: self.voter(row.session),
+            closer: row.closer().map(|position| self.closer(position as u32 + 1)),
+            verified: verifier.is_some(),
+            opening: opening.map(|opening| self.opening(opening, row.session)),
+        }
+    }
+
+    fn closer(&self, number: u32) -> Closer {
+        let main_number = self.expected.rows[number as usize - 1].mains_before + 1;
+        Closer { code: self.code(number), number, main_number, time: self.time(number) }
+    }
+
+    fn opening(&self, number: u32, session: u32) -> Opening {
+        let before = |wanted: u32| (1..number).filter(move |&earlier| self.code(earlier) == wanted);
+        let newer = |other: u32| other > session && self.voter(other) == self.voter(session);
+        Opening {
+            number,
+            time: self.time(number),
+            after_intent: before(INTENT).next().is_some(),
+            overwritten: before(SESSION).any(newer),
+            answered: self.under(number, SERVER_OPENING).is_some(),
+        }
     }
 }
