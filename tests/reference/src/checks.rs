@@ -370,7 +370,7 @@ fn full_faulty(makers: &Makers, name: Name, wanted: &dyn Fn(&Fault) -> bool, ran
         }
         let Some(faulty) = fault.apply(&made, random) else { continue };
         // An item put behind the last one would be over the limit.
-        if at_close(fault) == (faulty.items == MAX_ITEMS) {
+        if at_close(fault) == (faulty.items >= MAX_ITEMS) {
             let what = format!("full, {}", fault.reason);
             let known = Known::Refused(faulty.number, faulty.items);
             return faulty_case(name(&what), &made, &faulty.plan, known, random);

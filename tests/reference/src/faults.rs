@@ -5,7 +5,7 @@ use crate::format::*;
 use crate::plan::{Address, Link, Plan, Previous, Spec, GOOD};
 use crate::random::Random;
 use crate::sha256::sha256;
-use crate::sound::Made;
+use crate::sound::{ballot_of, Made};
 
 /// The changed board and how many items pass.
 type Change = Option<(Plan, usize)>;
@@ -699,6 +699,168 @@ fn overwritten(made: &Made, code: u32, random: &mut Random) -> Change {
     Some((plan, at + 1))
 }
 
+// ---- 11: an opening of a ballot that is not spoiled ----
+
+/// The item of a type under another.
+fn child(made: &Made, parent: usize, code: u32) -> Option<usize> {
+    (parent + 1..items(made).len()).find(|&i| items(made)[i].code == code && parent_position(made, i) == parent)
+}
+
+/// The cast or spoil under a ballot, if it is of this type.
+fn closer(made: &Made, ballot: usize, code: u32) -> Option<usize> {
+    made.expected.rows[ballot].closer().filter(|&i| items(made)[i].code == code)
+}
+
+/// Puts a voter opening of a ballot before the item at `at`, and before it what its track lacks. None
+/// where the ballot is opened or its track goes on further behind.
+fn open_ballot(made: &Made, ballot: usize, at: usize, random: &mut Random) -> Change {
+    let track = child(made, ballot, TRACK);
+    let verifier = track.and_then(|i| child(made, i, VERIFIER));
+    let opening = verifier.and_then(|i| child(made, i, VOTER_OPENING));
+    let there: Vec<usize> = [track, verifier].into_iter().flatten().collect();
+    if opening.is_some() || there.iter().any(|&i| i >= at) {
+        return None;
+    }
+    let mut plan = made.plan.clone();
+    let mut parent = *there.last().unwrap_or(&ballot);
+    for (end, &code) in (at..).zip(&[TRACK, VERIFIER, VOTER_OPENING][there.len()..]) {
+        let content = plain_content(made, code, at, random);
+        let key = match code {
+            TRACK => ballot_box(made),
+            VERIFIER => eight(&content, 0),
+            _ => eight(&items(made)[session_of(made, ballot)].content, 2),
+        };
+        let mut spec = new_item(made, code, at, Link::Item(parent), content, key);
+        spec.time = plan.items[parent].time.saturating_add(random.below(50) as u64);
+        plan.insert(end, spec);
+        parent = end;
+    }
+    Some((plan, parent))
+}
+
+/// An opening of some ballot. `between` gives the first and the last position for it, if the ballot fits.
+fn open_some(made: &Made, random: &mut Random, between: impl Fn(usize) -> Option<(usize, usize)>) -> Change {
+    let ballot = pick_where(made, random, |i, s| s.code == BALLOT && between(i).is_some())?;
+    let (first, last) = between(ballot)?;
+    let at = random.between(first, last);
+    open_ballot(made, ballot, at, random)
+}
+
+fn opening_beside_cast(made: &Made, _: u32, random: &mut Random) -> Change {
+    open_some(made, random, |ballot| Some((closer(made, ballot, CAST)? + 1, items(made).len())))
+}
+fn opening_before_cast(made: &Made, _: u32, random: &mut Random) -> Change {
+    open_some(made, random, |ballot| Some((ballot + 1, closer(made, ballot, CAST)?)))
+}
+fn opening_on_open(made: &Made, _: u32, random: &mut Random) -> Change {
+    open_some(made, random, |ballot| match made.expected.rows[ballot].closer() {
+        Some(_) => None,
+        None => Some((ballot + 1, items(made).len())),
+    })
+}
+
+/// The ballot is cast or open, and a spoil stands under another one that is of this kind to it.
+fn opening_other_spoiled(made: &Made, random: &mut Random, other: impl Fn(usize, usize) -> bool) -> Change {
+    open_some(made, random, |ballot| {
+        if closer(made, ballot, SPOIL).is_some() {
+            return None;
+        }
+        let spoils = positions(made, items(made).len(), SPOIL);
+        let spoil = spoils.into_iter().find(|&i| other(i, ballot))?;
+        Some((spoil.max(ballot) + 1, items(made).len()))
+    })
+}
+fn opening_other_of_session_spoiled(made: &Made, _: u32, random: &mut Random) -> Change {
+    opening_other_spoiled(made, random, |spoil, ballot| session_of(made, spoil) == session_of(made, ballot))
+}
+fn opening_other_voters_spoiled(made: &Made, _: u32, random: &mut Random) -> Change {
+    opening_other_spoiled(made, random, |spoil, ballot| voter_of(made, spoil) != voter_of(made, ballot))
+}
+
+/// A voter opening, and the spoil before it.
+fn opened(made: &Made, random: &mut Random) -> Option<(usize, usize)> {
+    let opening = pick(made, VOTER_OPENING, random)?;
+    let ballot = ballot_of(items(made), &made.expected.rows, opening);
+    Some((opening, closer(made, ballot, SPOIL)?))
+}
+
+fn opening_without_spoil(made: &Made, _: u32, random: &mut Random) -> Change {
+    let (opening, spoil) = opened(made, random)?;
+    let mut plan = made.plan.clone();
+    // Nothing hangs on a spoil.
+    plan.remove(spoil, 0);
+    Some((plan, opening - 1))
+}
+fn opening_with_cast_for_spoil(made: &Made, _: u32, random: &mut Random) -> Change {
+    let (opening, spoil) = opened(made, random)?;
+    // A fingerprint would be another one.
+    if first_of(made, EXTRACTION).is_some_and(|i| i < opening) {
+        return None;
+    }
+    let mut plan = made.plan.clone();
+    plan.items[spoil].code = CAST;
+    Some((plan, opening))
+}
+
+/// The spoil moved behind the opening, if their times then fit.
+fn opening_before_spoil(made: &Made, random: &mut Random, fits: fn(u64, u64) -> bool) -> Change {
+    let (opening, spoil) = opened(made, random)?;
+    let at = opening + 1;
+    let mut moved = items(made)[spoil].clone();
+    moved.time = items(made)[last_main(made, at)?].time;
+    if !may_vote(made, session_of(made, spoil), at) || !fits(items(made)[opening].time, moved.time) {
+        return None;
+    }
+    let mut plan = made.plan.clone();
+    plan.insert(at, moved);
+    plan.remove(spoil, 0);
+    Some((plan, opening - 1))
+}
+fn opening_before_spoil_at_any_time(made: &Made, _: u32, random: &mut Random) -> Change {
+    opening_before_spoil(made, random, |_, _| true)
+}
+fn opening_before_spoil_of_earlier_time(made: &Made, _: u32, random: &mut Random) -> Change {
+    opening_before_spoil(made, random, |opening, spoil| spoil < opening)
+}
+
+/// An opening of a ballot that is cast or open, with something else wrong in it.
+fn opening_unspoiled(
+    made: &Made,
+    random: &mut Random,
+    edit: fn(&mut Plan, usize, &mut Random) -> Option<()>,
+) -> Change {
+    let (mut plan, at) = open_some(made, random, |ballot| match closer(made, ballot, SPOIL) {
+        Some(_) => None,
+        None => Some((ballot + 1, items(made).len())),
+    })?;
+    edit(&mut plan, at, random)?;
+    Some((plan, at))
+}
+fn opening_unspoiled_with_bad_verdict(made: &Made, _: u32, random: &mut Random) -> Change {
+    opening_unspoiled(made, random, |plan, at, random| {
+        match random.below(3) {
+            0 => plan.items[at].verdict = 0,
+            1 => plan.items[at].key = random.eight(),
+            _ => plan.items[at].verdict &= !1,
+        }
+        Some(())
+    })
+}
+fn opening_unspoiled_and_backward(made: &Made, _: u32, random: &mut Random) -> Change {
+    opening_unspoiled(made, random, |plan, at, _| {
+        let Link::Item(verifier) = plan.items[at].parent else { return None };
+        plan.items[at].time = plan.items[verifier].time.checked_sub(1)?;
+        Some(())
+    })
+}
+fn opening_unspoiled_under_track(made: &Made, _: u32, random: &mut Random) -> Change {
+    opening_unspoiled(made, random, |plan, at, _| {
+        let Link::Item(verifier) = plan.items[at].parent else { return None };
+        plan.items[at].parent = plan.items[verifier].parent.clone();
+        Some(())
+    })
+}
+
 // ---- 12: second ----
 
 fn second_genesis(made: &Made, _: u32, random: &mut Random) -> Change {
@@ -720,13 +882,19 @@ fn second_threshold(made: &Made, _: u32, random: &mut Random) -> Change {
     insert(made, at, new_item(made, THRESHOLD, at, Link::Item(latest_config(made, at)), content, administrator(made)))
 }
 
+/// Whether a voting item of this session may stand before the item at `at`.
+fn may_vote(made: &Made, session: usize, at: usize) -> bool {
+    let end = first_of(made, INTENT).unwrap_or(items(made).len());
+    let now = last_main(made, at).map_or(0, |i| items(made)[i].time);
+    at <= end && is_live(made, session, at) && !open(made, at, now).is_empty()
+}
+
 /// A position after `from` where a voting item of this session may stand.
 fn voting_position(made: &Made, from: usize, session: usize, random: &mut Random) -> usize {
     for _ in 0..4 {
         let end = first_of(made, INTENT).unwrap_or(items(made).len());
         let at = random.between(from + 1, end.max(from + 1));
-        let now = last_main(made, at).map_or(0, |i| items(made)[i].time);
-        if is_live(made, session, at) && !open(made, at, now).is_empty() {
+        if may_vote(made, session, at) {
             return at;
         }
     }
@@ -1256,10 +1424,22 @@ pub fn faults() -> Vec<Fault> {
     one(8, "hidden first", hidden_first_previous);
     one(9, "genesis with a parent", genesis_parent);
     one(9, "hidden before its parent", before_its_parent);
+    one(9, "opening under a track start, not spoiled", opening_unspoiled_under_track);
+    one(10, "opening earlier than its verifier, not spoiled", opening_unspoiled_and_backward);
     one(11, "no threshold", without_threshold);
     one(11, "no authorizer", without_authorizer);
     one(11, "no round", without_round);
     one(11, "intent without threshold", early_intent);
+    one(11, "opening beside a cast", opening_beside_cast);
+    one(11, "opening before a cast", opening_before_cast);
+    one(11, "opening on an open ballot", opening_on_open);
+    one(11, "opening, another ballot of the session spoiled", opening_other_of_session_spoiled);
+    one(11, "opening, another voter's ballot spoiled", opening_other_voters_spoiled);
+    one(11, "opening, the spoil left out", opening_without_spoil);
+    one(11, "opening, a cast in the spoil's place", opening_with_cast_for_spoil);
+    one(11, "opening before its spoil", opening_before_spoil_at_any_time);
+    one(11, "opening before its spoil, which has an earlier time", opening_before_spoil_of_earlier_time);
+    one(11, "opening not spoiled, and a bad verdict", opening_unspoiled_with_bad_verdict);
     one(12, "genesis", second_genesis);
     one(12, "threshold", second_threshold);
     one(12, "cast after cast", cast_after_cast);
