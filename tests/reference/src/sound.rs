@@ -590,9 +590,11 @@ impl Maker<'_> {
         };
         waiting.retain(|&position| position != parent);
         let earliest = self.items[parent].time;
-        let time = match self.random.below(5) {
-            0 => earliest,
-            1 => earliest.saturating_add(1 << 40),
+        // Often so early that a spoil before it has a later time.
+        let time = match self.random.below(6) {
+            0 | 1 => earliest,
+            2 => earliest + self.random.below(20) as u64,
+            3 => earliest.saturating_add(1 << 40),
             _ => earliest + self.random.below(5_000) as u64,
         };
         match stage {
