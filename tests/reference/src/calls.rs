@@ -6,11 +6,11 @@
 use crate::ancestry::ancestry;
 use crate::audit::audit;
 use crate::checks::Case;
-use crate::closed::{broken, check_closed, PROPERTIES};
 use crate::compare::{compare, Board, Comparison, Tables};
 use crate::format::*;
 use crate::interface::*;
 use crate::random::Random;
+use crate::told::{broken, check_told, PROPERTIES};
 
 /// How often an entry gave each answer: by refusal number, or for comparing 20 apart, 21 same,
 /// 22 collision. 23: an answer buffer too short.
@@ -38,7 +38,7 @@ struct Passed<'a> {
 impl Call<'_> {
     /// Holds the call to the reference, and to the boards.
     pub fn hold(&self) -> Result<(), String> {
-        self.hold_words().and_then(|()| self.hold_closed())
+        self.hold_words().and_then(|()| self.hold_told())
     }
 
     /// Holds the result to the one expected, and the buffers to the reference.
@@ -50,20 +50,26 @@ impl Call<'_> {
         held.map_err(|message| format!("{}: {message}", self.entry))
     }
 
-    /// Holds each index table that was filled to its board, the reference left aside.
-    pub fn hold_closed(&self) -> Result<(), String> {
+    /// Holds the tables that were filled to their boards, the reference left aside.
+    pub fn hold_told(&self) -> Result<(), String> {
         for board in self.boards.iter().filter(|board| board.accepted) {
-            let (index, what) = &self.buffers[board.index];
-            check_closed(board.words, index.given()).map_err(|message| format!("{}: {what}: {message}", self.entry))?;
+            let [(index, what), (ballots, _)] = self.tables(board);
+            check_told(board.words, index.given(), ballots.given())
+                .map_err(|message| format!("{}: {what}: {message}", self.entry))?;
         }
         Ok(())
+    }
+
+    /// A board's index table and ballot table.
+    fn tables(&self, board: &Passed) -> &[(Buffer, &'static str); 2] {
+        self.buffers[board.index..board.index + 2].try_into().expect("two tables")
     }
 
     /// Holds the tables of each board that was audited to these, index table first.
     pub fn hold_tables(&self, tables: &[Vec<u32>; 2]) -> Result<(), String> {
         let audited = 1 + self.boards.iter().take_while(|board| board.accepted).count();
         for board in self.boards.iter().take(audited) {
-            for ((table, what), expected) in self.buffers[board.index..].iter().zip(tables) {
+            for ((table, what), expected) in self.tables(board).iter().zip(tables) {
                 if let Some(at) = (0..expected.len()).find(|&at| table.given()[at] != expected[at]) {
                     let (given, expected) = (table.given()[at], expected[at]);
                     return Err(format!("{}: word {at} of the {what} is {given}, not {expected}", self.entry));
@@ -73,14 +79,14 @@ impl Call<'_> {
         Ok(())
     }
 
-    /// Which properties the index table of the first board breaks; none where it is refused.
+    /// Which properties the tables of the first board break; none where it is refused.
     pub fn broken(&self) -> [bool; PROPERTIES.len()] {
-        match &self.boards[0] {
-            board if board.accepted => {
-                broken(board.words, self.buffers[board.index].0.given()).expect("a row for each item")
-            }
-            _ => [false; PROPERTIES.len()],
+        let board = &self.boards[0];
+        if !board.accepted {
+            return [false; PROPERTIES.len()];
         }
+        let [(index, _), (ballots, _)] = self.tables(board);
+        broken(board.words, index.given(), ballots.given()).expect("rows and nothing else")
     }
 }
 

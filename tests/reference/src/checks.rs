@@ -3,7 +3,6 @@
 
 use crate::audit::{audit, refused, Report};
 use crate::calls::{call_ancestry, call_audit, call_compare, Tally};
-use crate::closed::{check_closed, PROPERTIES};
 use crate::crowded::{crowded, most_ballots, Fate};
 use crate::damage::{damage_plan, damage_words, no_board};
 use crate::faults::{faults, rank, spoil_more, Fault};
@@ -15,6 +14,7 @@ use crate::reached::{Ballots, WANTED};
 use crate::sha256::sha256;
 use crate::sound::{any_shape, make, Expected, Made, Shape};
 use crate::stand_in::{BALLOTS_NEED_BEFORE, INDEX_NEED_BEFORE};
+use crate::told::{check_told, PROPERTIES};
 
 /// What is known of a board from its making.
 #[derive(Clone)]
@@ -460,7 +460,7 @@ fn check_known_with(case: &Case, index_len: usize, ballots_len: usize, known: &K
         Known::Sound(expected, places, end) => audited.check_sound(expected, places, *end),
     };
     let rows = || match audited.report.number {
-        0 => check_closed(&case.words, &audited.index),
+        0 => check_told(&case.words, &audited.index, &audited.ballots),
         _ => Ok(()),
     };
     held.and_then(|()| rows()).map_err(|message| format!("{}: {message}", case.name))?;
@@ -613,8 +613,8 @@ pub const ANY_LENGTH: [Check; 3] = [check_audit, check_compare, check_ancestry];
 /// Every entry, with tables of just the words they need, of too few, and of more.
 pub const FULL_LENGTHS: [Check; 3] = [check_audit_full, check_compare_full, check_ancestry_full];
 
-/// Every entry, its index tables held to the boards alone.
-pub const CLOSED: [Check; 3] = [check_audit_closed, check_compare_closed, check_ancestry_closed];
+/// Every entry, its tables held to the boards alone.
+pub const TOLD: [Check; 3] = [check_audit_told, check_compare_told, check_ancestry_told];
 
 /// The lengths that an index table and a ballot table need.
 const NEED: [usize; 2] = [INDEX_NEED, BALLOTS_NEED];
@@ -647,11 +647,11 @@ fn check_audit_full(with: &Interface, case: &Case, random: &mut Random, tally: &
     Ok(())
 }
 
-fn check_audit_closed(with: &Interface, case: &Case, random: &mut Random, tally: &mut Tally) -> Result<(), String> {
-    call_audit(with, case, [INDEX_NEED, BALLOTS_NEED, AUDIT_ANSWER], random, tally).hold_closed()
+fn check_audit_told(with: &Interface, case: &Case, random: &mut Random, tally: &mut Tally) -> Result<(), String> {
+    call_audit(with, case, [INDEX_NEED, BALLOTS_NEED, AUDIT_ANSWER], random, tally).hold_told()
 }
 
-/// Which properties of the index table an audit breaks; none where the board is refused.
+/// Which properties of the tables an audit breaks; none where the board is refused.
 pub fn broken_by_audit(with: &Interface, case: &Case) -> [bool; PROPERTIES.len()] {
     let lengths = [INDEX_NEED, BALLOTS_NEED, AUDIT_ANSWER];
     call_audit(with, case, lengths, &mut Random::new(0), &mut Tally::default()).broken()
@@ -687,9 +687,9 @@ fn check_ancestry_full(with: &Interface, case: &Case, random: &mut Random, tally
     Ok(())
 }
 
-fn check_ancestry_closed(with: &Interface, case: &Case, random: &mut Random, tally: &mut Tally) -> Result<(), String> {
+fn check_ancestry_told(with: &Interface, case: &Case, random: &mut Random, tally: &mut Tally) -> Result<(), String> {
     let lengths = [INDEX_NEED, BALLOTS_NEED, LIST_NEED, ANCESTRY_ANSWER];
-    call_ancestry(with, case, lengths, random, tally).map_or(Ok(()), |call| call.hold_closed())
+    call_ancestry(with, case, lengths, random, tally).map_or(Ok(()), |call| call.hold_told())
 }
 
 fn check_compare(with: &Interface, case: &Case, random: &mut Random, tally: &mut Tally) -> Result<(), String> {
@@ -717,7 +717,7 @@ fn check_compare_full(with: &Interface, case: &Case, random: &mut Random, tally:
     Ok(())
 }
 
-fn check_compare_closed(with: &Interface, case: &Case, random: &mut Random, tally: &mut Tally) -> Result<(), String> {
+fn check_compare_told(with: &Interface, case: &Case, random: &mut Random, tally: &mut Tally) -> Result<(), String> {
     let lengths = [INDEX_NEED, BALLOTS_NEED, INDEX_NEED, BALLOTS_NEED, COMPARE_ANSWER];
-    call_compare(with, case, lengths, random, tally).map_or(Ok(()), |call| call.hold_closed())
+    call_compare(with, case, lengths, random, tally).map_or(Ok(()), |call| call.hold_told())
 }

@@ -1,12 +1,12 @@
 //! Collisions, with a hash so weak that they can be made: what SHA-256 will not show.
 
 use crate::audit::{audit_with, Rules, RULES};
-use crate::closed::check_closed;
 use crate::compare::{compare_with, Board, Comparison, Tables};
 use crate::format::*;
 use crate::plan::{Laid, Plan};
 use crate::random::Random;
 use crate::sound::{any_shape, make, Made};
+use crate::told::check_told;
 
 /// A hash of 13 bits. Zero is no value of it, so that no item has the address zeros.
 pub fn weak_hash(message: &[u32]) -> [u32; 8] {
@@ -21,12 +21,12 @@ pub fn weak_hash(message: &[u32]) -> [u32; 8] {
 
 const WEAK_RULES: Rules = Rules { hash: weak_hash, ..RULES };
 
-/// Audits a board. Gives the number, and the index table.
-fn run(laid: &Laid) -> (u32, Vec<u32>) {
+/// Audits a board. Gives the number, and both tables.
+fn run(laid: &Laid) -> (u32, Vec<u32>, Vec<u32>) {
     let mut index = vec![3; INDEX_NEED];
     let mut ballots = vec![4; BALLOTS_NEED];
     let (report, _) = audit_with(WEAK_RULES, &laid.words, &laid.verdicts, &mut index, &mut ballots);
-    (report.number, index)
+    (report.number, index, ballots)
 }
 
 fn compare_laid(kept: &Laid, later: &Laid, main_number: usize) -> Comparison {
@@ -134,12 +134,12 @@ pub fn check(seed: u64, seen: &mut Seen) -> Result<(), String> {
         let Some(forged) = forge(&mut later_plan, position, kept.addresses[at], random) else { return Ok(()) };
         later = forged;
     }
-    let (number, index) = run(&later);
+    let (number, index, ballots) = run(&later);
     if number != 0 {
         return Ok(());
     }
     // Also where two ballots have one address.
-    check_closed(&later.words, &index).map_err(|message| format!("collision seed {seed}: {message}"))?;
+    check_told(&later.words, &index, &ballots).map_err(|message| format!("collision seed {seed}: {message}"))?;
     let (kept_mains, later_mains) = (main_words(&kept, &made.plan), main_words(&later, &later_plan));
     for b in 1..=later_mains.len() {
         let expected = judge(&kept_mains, &later_mains, b);

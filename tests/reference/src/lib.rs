@@ -4,7 +4,8 @@
 //!
 //! The rules: `sha256`, `format`, `audit`, `compare`, `ancestry`, `program`.
 //! The boards: `random`, `plan`, `sound`, `crowded`, `faults`, `damage`, `collisions`.
-//! The checks: `interface`, `header`, `stand_in`, `closed`, `reached`, `calls`, `checks`, `stored`.
+//! The checks: `interface`, `header`, `stand_in`, `told`, `closed`, `opened`, `reached`, `calls`, `checks`,
+//! `stored`.
 
 pub mod ancestry;
 pub mod audit;
@@ -19,6 +20,7 @@ pub mod faults;
 pub mod format;
 pub mod header;
 pub mod interface;
+pub mod opened;
 pub mod plan;
 pub mod program;
 pub mod random;
@@ -27,3 +29,4 @@ pub mod sha256;
 pub mod sound;
 pub mod stand_in;
 pub mod stored;
+pub mod told;

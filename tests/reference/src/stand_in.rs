@@ -1,9 +1,9 @@
 //! The reference behind the auditor's C interface, to try the checks with: they must pass it, and must
 //! find each of the mistakes that it can be told to make.
 
-use crate::ancestry::ancestry;
-use crate::audit::audit;
-use crate::compare::{compare, Board, Comparison, Side, Tables};
+use crate::ancestry::ancestry_with;
+use crate::audit::{audit_with, is_spoiled, Item, Opening, Rules, RULES};
+use crate::compare::{compare_with, Board, Comparison, Side, Tables};
 use crate::format::*;
 use crate::interface::*;
 use std::slice::{from_raw_parts, from_raw_parts_mut};
@@ -29,6 +29,10 @@ pub enum About {
     Lengths,
     /// Who closed a ballot.
     Closed,
+    /// An opening that is to be refused: it passes.
+    Accepted,
+    /// An opening that is to pass: it is refused.
+    Refused,
 }
 
 /// Makes the mistakes of a list: each has a name, what it is about, and what is wrong.
@@ -79,6 +83,11 @@ mistakes! {
     CloserByMainNumber, Closed, "a ballot's index row has a main number";
     OpenBallotHasZero, Closed, "an open ballot's index row has 0";
     SpoilNotNamedInKept, Closed, "a spoil is named in no index row of the kept board";
+    SpoilNotAskedFor, Accepted, "an opening needs no spoil";
+    CastForSpoil, Accepted, "an opening passes beside a cast";
+    SpoilOfSession, Accepted, "an opening passes with a spoil of its session";
+    SpoilBehind, Accepted, "an opening passes with a spoil behind it whose time is not later";
+    SpoilOfLaterTime, Refused, "an opening is refused with a spoil before it whose time is later";
 }
 
 /// The mistake that the stand-in makes.
@@ -144,6 +153,46 @@ fn with_ballots<T>(table: &mut [u32], run: impl FnOnce(&mut [u32]) -> T) -> T {
         }
         _ => run(table),
     }
+}
+
+/// The rules by which the stand-in audits: a mistake about openings makes one of them wrong.
+fn rules() -> Rules {
+    let may_open: fn(&Opening) -> bool = match made() {
+        Some(Mistake::SpoilNotAskedFor) => |_| true,
+        Some(Mistake::CastForSpoil) => |opening| is_spoiled(opening) || opening.history.has_under(opening.ballot, CAST),
+        Some(Mistake::SpoilOfSession) => |opening| {
+            let session = opening.history.item(opening.ballot).session;
+            any_spoil(opening, |spoil| spoil.session == session)
+        },
+        Some(Mistake::SpoilBehind) => |opening| is_spoiled(opening) || is_spoiled_behind(opening),
+        Some(Mistake::SpoilOfLaterTime) => {
+            |opening| any_spoil(opening, |spoil| spoil.parent == opening.ballot && spoil.time <= opening.time)
+        }
+        _ => is_spoiled,
+    };
+    Rules { may_open, ..RULES }
+}
+
+/// Whether there is such a spoil before an opening.
+fn any_spoil(opening: &Opening, fits: impl Fn(&Item) -> bool) -> bool {
+    let mut before = (1..=opening.history.items()).map(|number| opening.history.item(number));
+    before.any(|item| item.code == SPOIL && fits(item))
+}
+
+/// Whether the words have a spoil of the opening's ballot, at no later time, anywhere behind the ballot.
+fn is_spoiled_behind(opening: &Opening) -> bool {
+    let ballot = opening.history.item(opening.ballot);
+    let mut words = &opening.board[ballot.place..];
+    while !words.is_empty() && words.len() >= count(words[0]) + FRAME {
+        let (item, behind) = words.split_at(count(words[0]) + FRAME);
+        // A spoil has no content: its parent follows its head.
+        let is_spoil = item[0] == head(MAIN, SPOIL, 0);
+        if is_spoil && eight(item, 1) == ballot.address && time(item, 17) <= opening.time {
+            return true;
+        }
+        words = behind;
+    }
+    false
 }
 
 /// Which board an index table is of.
@@ -225,7 +274,7 @@ unsafe extern "C" fn stand_in_audit(
     let tables =
         Tables { index: from_raw_parts_mut(index, index_len), ballots: from_raw_parts_mut(ballots, ballots_len) };
     let report = with_tables(tables, |Tables { index, ballots }| {
-        let report = audit(board.words, board.verdicts, index, ballots);
+        let report = audit_with(rules(), board.words, board.verdicts, index, ballots).0;
         if report.number == 0 {
             close_wrongly(board, index, Of::OneBoard);
         }
@@ -261,7 +310,7 @@ unsafe extern "C" fn stand_in_compare(
     let comparison = with_tables(kept_tables, |of_kept| with_tables(later_tables, |of_later| {
         let kept_tables = Tables { index: &mut *of_kept.index, ballots: of_kept.ballots };
         let later_tables = Tables { index: &mut *of_later.index, ballots: of_later.ballots };
-        let comparison = compare(kept, later, main_number, kept_tables, later_tables);
+        let comparison = compare_with(rules(), kept, later, main_number, kept_tables, later_tables);
         let refused = match comparison {
             Comparison::Refused { side, number, .. } if number != 19 => Some(side),
             _ => None,
@@ -293,7 +342,7 @@ unsafe extern "C" fn stand_in_ancestry(
         Tables { index: from_raw_parts_mut(index, index_len), ballots: from_raw_parts_mut(ballots, ballots_len) };
     let written = from_raw_parts_mut(list, list_len);
     let given = with_tables(tables, |Tables { index, ballots }| {
-        let given = ancestry(board.words, board.verdicts, item_number, index, ballots, written);
+        let given = ancestry_with(rules(), board.words, board.verdicts, item_number, index, ballots, written);
         if matches!(given.number, 0 | 19) {
             close_wrongly(board, index, Of::OneBoard);
         }

@@ -7,7 +7,6 @@
 
 use reference::calls::Tally;
 use reference::checks::*;
-use reference::closed::PROPERTIES;
 use reference::collisions;
 use reference::crowded::crowded;
 use reference::header::{check_header, check_header_mistakes};
@@ -19,6 +18,7 @@ use reference::sha256::{check_vectors, sha256};
 use reference::sound::Shape;
 use reference::stand_in::{make_mistake, stand_in, About, Mistake, MISTAKES};
 use reference::stored::check_folder;
+use reference::told::PROPERTIES;
 use std::collections::BTreeMap;
 use std::fs;
 use std::path::{Path, PathBuf};
@@ -186,64 +186,68 @@ fn hidden_tracks() {
 
 /// The checks themselves are tried on a stand-in that makes a mistake. Those about lengths are to be
 /// found with a full board, by the lengths that are always tried with it; those about who closed a
-/// ballot also without the reference.
+/// ballot, and openings that pass, also without the reference.
 fn mistakes_are_found() {
     let makers = Makers::default();
     let sound: Vec<Case> = (0..400).map(|seed| case(&makers, Group::Sound, seed)).collect();
     let full = [case(&makers, Group::Full, 0)];
+    let openings = refused_openings(&makers);
     let mut broken = [0; PROPERTIES.len()];
     for mistake in [None].into_iter().chain(MISTAKES.iter().copied().map(Some)) {
         make_mistake(mistake);
-        let about = mistake.map(Mistake::about);
-        let mut found = Vec::new();
-        if about != Some(About::Lengths) {
-            found.push(differences(&sound, ANY_LENGTH));
-        }
-        if matches!(about, None | Some(About::Lengths)) {
-            found.push(differences(&full, FULL_LENGTHS));
-        }
-        if matches!(about, None | Some(About::Closed)) {
-            found.push(differences(&sound, CLOSED));
-        }
+        let tried: &[(&[Case], [Check; 3])] = match mistake.map(Mistake::about) {
+            None => &[(&sound, ANY_LENGTH), (&full, FULL_LENGTHS), (&sound, TOLD), (&openings, ANY_LENGTH)],
+            Some(About::Words | About::Refused) => &[(&sound, ANY_LENGTH)],
+            Some(About::Lengths) => &[(&full, FULL_LENGTHS)],
+            Some(About::Closed) => &[(&sound, ANY_LENGTH), (&sound, TOLD)],
+            Some(About::Accepted) => &[(&openings, ANY_LENGTH), (&openings, TOLD)],
+        };
+        let found: Vec<[usize; 3]> = tried.iter().map(|&(cases, checks)| differences(cases, checks)).collect();
         let right = found.iter().flatten().all(|&times| (times > 0) == mistake.is_some());
         if !right {
             let what = mistake.map_or("none", Mistake::what);
             fail(&format!("the checks do not see '{what}' as they should: found {found:?} times"));
         }
-        if about == Some(About::Closed) {
-            add_broken(&sound, &mut broken);
+        if mistake.is_some_and(found_alone) {
+            tried.iter().for_each(|(cases, _)| add_broken(cases, &mut broken));
         }
     }
     make_mistake(None);
     if broken.contains(&0) {
-        fail(&format!("the mistakes break the properties of the index table {broken:?} times, one of them never"));
+        fail(&format!("the mistakes break the properties of the tables {broken:?} times, one of them never"));
     }
     println!("harness    {} planted mistakes are found in each entry", MISTAKES.len());
-    println!(
-        "           {} of them without the reference, by {} properties of the index table",
-        about_closed().count(),
-        PROPERTIES.len()
-    );
+    let alone = MISTAKES.iter().filter(|&&mistake| found_alone(mistake)).count();
+    println!("           {alone} of them without the reference, by {} properties of the tables", PROPERTIES.len());
 }
 
-/// The mistakes about who closed a ballot.
-fn about_closed() -> impl Iterator<Item = Mistake> {
-    MISTAKES.iter().copied().filter(|mistake| mistake.about() == About::Closed)
+/// Boards that are refused for an opening, some for each way to be.
+fn refused_openings(makers: &Makers) -> Vec<Case> {
+    let ways = (0..makers.faults.len()).filter(|&way| makers.faults[way].reason.starts_with("11/opening"));
+    let seeds = ways.flat_map(|way| (0..12).map(move |turn| (way + turn * makers.faults.len()) as u64));
+    seeds.map(|seed| case(makers, Group::Faults, seed)).collect()
 }
 
-/// The stored tables, too, are to find them.
+/// Whether a mistake is to be found without the reference.
+fn found_alone(mistake: Mistake) -> bool {
+    matches!(mistake.about(), About::Closed | About::Accepted)
+}
+
+/// The stored tables, too, are to find mistakes about who closed a ballot and about openings.
 fn stored_tables_find(options: &Options) {
-    for mistake in about_closed() {
+    let by_tables = |mistake: &Mistake| !matches!(mistake.about(), About::Words | About::Lengths);
+    let mistakes: Vec<Mistake> = MISTAKES.iter().copied().filter(by_tables).collect();
+    for &mistake in &mistakes {
         make_mistake(Some(mistake));
         if options.boards.iter().all(|folder| check_folder(folder, None).is_ok()) {
             fail(&format!("the stored tables do not see '{}'", mistake.what()));
         }
     }
     make_mistake(None);
-    println!("           and by the stored tables");
+    println!("           {} of them by the stored tables", mistakes.len());
 }
 
-/// Counts the cases in which the stand-in's index table breaks each property.
+/// Counts the cases in which the stand-in's tables break each property.
 fn add_broken(cases: &[Case], broken: &mut [usize; PROPERTIES.len()]) {
     for case in cases {
         for (times, is_broken) in broken.iter_mut().zip(broken_by_audit(&stand_in(), case)) {
