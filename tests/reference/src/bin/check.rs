@@ -209,7 +209,7 @@ fn mistakes_are_found() {
             fail(&format!("the checks do not see '{what}' as they should: found {found:?} times"));
         }
         if mistake.is_some_and(found_alone) {
-            tried.iter().for_each(|(cases, _)| add_broken(cases, &mut broken));
+            add_broken(tried[0].0, &mut broken);
         }
     }
     make_mistake(None);
@@ -224,7 +224,7 @@ fn mistakes_are_found() {
 /// Boards that are refused for an opening, some for each way to be.
 fn refused_openings(makers: &Makers) -> Vec<Case> {
     let ways = (0..makers.faults.len()).filter(|&way| makers.faults[way].reason.starts_with("11/opening"));
-    let seeds = ways.flat_map(|way| (0..12).map(move |turn| (way + turn * makers.faults.len()) as u64));
+    let seeds = ways.flat_map(|way| (0..6).map(move |turn| (way + turn * makers.faults.len()) as u64));
     seeds.map(|seed| case(makers, Group::Faults, seed)).collect()
 }
 
