@@ -8,7 +8,7 @@ use libc::STDOUT_FILENO;
 use report::Answer;
 
 // The boards, numbered from 0.
-const BOARDS: usize = 111;
+const BOARDS: usize = 116;
 
 // Words that a board or its verdicts may have here.
 const ROOM: usize = 16_384;
