@@ -80,7 +80,9 @@ module _ (h : History) (i : Item) where
 
   pub opening-phase : code i ≡ voterOpeningType → T (phaseOk h i) ↔ Spoil h (trackBallot h (parentNumber h i))
   unfolding spoiledOk _⇒_
-  opening-phase c = rw (hidden-phase (rw c tt), eq-eqb (code i) voterOpeningType c) (has-spoil h (trackBallot h (parentNumber h i)), is-spoiled h (trackBallot h (parentNumber h i)))
+  opening-phase c =
+      let ballot = trackBallot h (parentNumber h i) in
+      rw (hidden-phase (rw c tt), eq-eqb (code i) voterOpeningType c) (has-spoil h ballot, is-spoiled h ballot)
 
 -- ---- voter openings of a passed history
 
@@ -94,6 +96,15 @@ module _ {f : Format} {ws vs : List ℕ} {h : History} (p : Passed f ws vs h) wh
         numbered p k one all .parent (λ g. omega arith) .1,
       )
 
+  -- ballots with the same main number are one
+  one-ballot : (j k : ℕ) → code (itemNo h j) ≡ ballotType → code (itemNo h k) ≡ ballotType → mainNumber h j ≡ mainNumber h k → j ≡ k
+  one-ballot j k a b = one-main h j k (λ l. is-main j a) (λ l. is-main k b)
+    where
+      is-main : (n : ℕ) → code (itemNo h n) ≡ ballotType → T (main (entry h n))
+      is-main n c =
+          let (one, all) = entry-inside h n (omega arith) in
+          typed-main (fine-at (orderly p) n one all) ballotType (omega arith) (eq→eqb _ _ c)
+
   -- above a voter opening, item o, stand a verifier, the track's start and the ballot
   abbrev verifier : ℕ → ℕ
   verifier o = entry h o .parent
@@ -105,7 +116,8 @@ module _ {f : Format} {ws vs : List ℕ} {h : History} (p : Passed f ws vs h) wh
   ballot o = entry h (start o) .parent
 
   module _ (o : ℕ) (opened : code (itemNo h o) ≡ voterOpeningType) where
-    pub track-types : (code (itemNo h (verifier o)) ≡ verifierType) × (code (itemNo h (start o)) ≡ trackType) × (code (itemNo h (ballot o)) ≡ ballotType)
+    pub track-types : (code (itemNo h (verifier o)) ≡ verifierType) × (code (itemNo h (start o)) ≡ trackType)
+        × (code (itemNo h (ballot o)) ≡ ballotType)
     unfolding parentType table
     track-types =
         let (a, _) = above voterOpeningType verifierType o (omega arith) tt opened in
@@ -136,20 +148,12 @@ module _ {f : Format} {ws vs : List ℕ} {h : History} (p : Passed f ws vs h) wh
   opened-spoiled zero c = absurd (not-suc-le-zero (entry-inside h 0 (omega arith) .0))
   opened-spoiled (suc o) c =
       let (one, all) = entry-inside h (suc o) (omega arith) in
-      let (s, kind, up) = opening-phase (take o h) (itemNo h (suc o)) c .0 (made-at p o all .meets .phase) in
+      let (s, type, up) = opening-phase (take o h) (itemNo h (suc o)) c .0 (made-at p o all .meets .phase) in
       let inside = entry-inside (take o h) s (omega arith) .1 in
       let long = length-take-le o h (omega arith) in
       let here = entry-take h o s (omega arith) (omega arith) in
-      (s, omega arith, ap (λ (e : Entry). code (e .item)) (sym here) ∙ kind, ap (λ (e : Entry). e .parent) (sym here) ∙ up ∙ same-ballot o all c)
-
-  -- ballots with the same main number are one
-  one-ballot : (j k : ℕ) → code (itemNo h j) ≡ ballotType → code (itemNo h k) ≡ ballotType → mainNumber h j ≡ mainNumber h k → j ≡ k
-  one-ballot j k a b = one-main h j k (λ l. is-main j a) (λ l. is-main k b)
-    where
-      is-main : (n : ℕ) → code (itemNo h n) ≡ ballotType → T (main (entry h n))
-      is-main n c =
-          let (one, all) = entry-inside h n (omega arith) in
-          typed-main (fine-at (orderly p) n one all) ballotType (omega arith) (eq→eqb _ _ c)
+      let kind : code (itemNo h s) ≡ spoilType = ap (λ (e : Entry). code (e .item)) (sym here) ∙ type in
+      (s, omega arith, kind, ap (λ (e : Entry). e .parent) (sym here) ∙ up ∙ same-ballot o all c)
 
   -- so no cast stands under it
   pub opened-uncast : (o c : ℕ) → code (itemNo h o) ≡ voterOpeningType → code (itemNo h c) ≡ castType → entry h c .parent ≢ ballot o

@@ -38,7 +38,8 @@ module _ {board index : List ℕ} {n : ℕ} (kept : Kept board index n) (k r : �
   pub closer-in : r ≢ 0 → (1 ≤ r) × (r ≤ n)
   closer-in q = (omega arith, omega (arith, closer-bound (before board n) k, length-history base board n))
 
-  pub closed-by : {e : Known} → IsKnown board (entry (before board n) r) e → eqb (e .item .head .code) spoilType ≡ isSpoiled (before board n) k
+  pub closed-by : {e : Known} → IsKnown board (entry (before board n) r) e
+      → eqb (e .item .head .code) spoilType ≡ isSpoiled (before board n) k
   closed-by e =
       ap (λ (x : ℕ). eqb x spoilType) (known-code e)
       ∙ ap (λ (x : ℕ). eqb (code (itemNo (before board n) x)) spoilType) is

@@ -13,7 +13,8 @@ returns-2 c =
     opening-none (e1 .before .before .before .before .pre) (e1 .if1 .left) (c .if2 .taken)
 
 -- the verifier, past both tests
-verifier : (c : tie.Else2) → let s = c .before .before .before .before .before .before in (1 ≤ s .args .c .parent) × (s .args .c .parent ≤ s .args .s .items)
+verifier : (c : tie.Else2) → let s = c .before .before .before .before .before .before in
+    (1 ≤ s .args .c .parent) × (s .args .c .parent ≤ s .args .s .items)
 verifier c =
     let e1 = c .before .before in
     verifier-in (e1 .before .before .before .before .pre) (e1 .if1 .left) (c .if2 .left)
