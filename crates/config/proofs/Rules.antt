@@ -12,12 +12,12 @@ use Rattle.model.specs.Codes.{contestType, thresholdType, authorizerType, round
 use Rattle.model.specs.Item.{Item, word}
 use Rattle.model.specs.History.{History}
 use Rattle.model.specs.Content.{contestsOk, contestOk, thresholdOk, authorizerOk, roundOk}
-use Rattle.model.proofs.Defined.{contests-small, contests-ok}
 use Rattle.index.specs.declared.Known.{Known}
 use Rattle.index.proofs.Counts.{hasWords}
 use Rattle.index.specs.Kept.{before, itemAfter, Kept}
 use Rattle.state.specs.declared.State.{State}
 use Rattle.state.specs.Stands.{Stands, AtItem}
+use Rattle.state.proofs.Defined.{contests-small, contests-ok}
 use Rattle.state.proofs.At.{at-words, at-content-words}
 use Rattle.fields.proofs.Words.{is-type, not-type}
 

@@ -12,19 +12,20 @@ use Rattle.model.specs.Lists.{if_then_else_, _⇒_, any, count, keep}
 use Rattle.model.specs.Words.{between, closingWord}
 use Rattle.model.specs.Format.{Format}
 use Rattle.model.specs.Item.{Item, code, isMain, time, word, unsigned, wordsOf}
-use Rattle.model.specs.Types.{ParentRule, zeros, latestConfig, ofType, Listed}
+use Rattle.model.specs.Types.{ParentRule, zeros, latestConfig, ofType, Row, Listed}
 use Rattle.model.specs.History.{History, Entry, itemNo, itemsWith, main, mainItems, mainNumber, endAddress, first, last, typed, config, parentNumber, sessionNumber, entryOf, childOf, sessionVoter}
 use Rattle.model.specs.Links.{previousOk, parentOk, timeOk}
 use Rattle.model.specs.Phase.{sameRound, rounds, isOpen, sessionOf, extractionOk, openOk, standingOk, latestOk, intentOk, spoiledOk, phaseOk}
 use Rattle.model.specs.Only.{onBoardOk, underParentOk, underBallotOk, onlyOk}
 use Rattle.model.specs.Content.{defines, contestsOk, enables, mayVote, contestOk, thresholdOk, authorizerOk, roundOk, sessionOk, commitmentOk, ballotOk, fingerprintOk, trusteesOk, contentOk}
 use Rattle.model.specs.Keys.{keyOf, goodVerdict}
+use Rattle.model.specs.Audit.{checks}
 use Rattle.model.specs.Alone.{mainList, replay, MainBoard}
 use Rattle.model.specs.Sound.{Meets, Passed, none, next, Sound}
 use Rattle.model.proofs.Tests.{by-test, passes, is-true, is-false, and-iff}
 use Rattle.model.proofs.Lists.{Every, every, every-map, count-few, count-keep, keep-keep, any-kept, any-of-map, map-keep, latest-map}
-use Rattle.model.proofs.Numbers.{OnlyMain, MainAt, same-number, first-main, first-at, last-at, last-number}
-use Rattle.model.proofs.State.{mainItems-snoc}
+use Rattle.model.proofs.Numbers.{OnlyMain, MainAt, same-number, first-main, first-at, last-found, last-number}
+use Rattle.model.proofs.State.{any-last, mainItems-snoc}
 use Rattle.model.proofs.Table.{main-low, asksNone, genesis-law}
 use Rattle.model.proofs.Sets.{allIn-ext}
 use Rattle.model.proofs.Entries.{parent-at, Opens, Orderly, each-fine, low-main, typed-only, own-session-at, orderly}
@@ -54,6 +55,13 @@ most lo hi c t = leb→le c hi (and-iff (leb lo c) (leb c hi) .0 t .1)
 some-number : (h : History) (k : ℕ) → MainAt h k → eqb (mainNumber h k) 0 ≡ eqb k 0
 unfolding count
 some-number h k m = same-number h k 0 m (λ l. absurd (not-suc-le-zero l))
+
+-- where only main items pass, the last that passes is one, or none is found
+last-at : (p : Entry → Bool) (h : History) → OnlyMain p h → MainAt h (last p h)
+last-at p h all l =
+    let found = is-false (eqb (last p h) 0) (λ u. omega (arith, eqb→eq (last p h) 0 u)) in
+    let (t, only) = last-found p (λ e. T (p e) → T (main e)) h all (rw (any-last p h, found) tt) in
+    only t
 
 -- ---- questions to a history and to its main items alone
 
@@ -249,50 +257,74 @@ module _ {f : Format} {h : History} (o : Orderly f h) where
 
 -- ---- from one board to another
 
-module _ {f : Format} {ws vs xs ys : List ℕ} {g h : History} (a : Passed f ws vs g) (b : Passed f xs ys h) where
-  same-mains : mainList g ≡ mainList h → mains g ≡ mains h
-  same-mains q = sym (replay-mains a) ∙ ap replay q ∙ replay-mains b
+-- each rule says the same of an item of a listed type after g and after h
+record SameRules (f : Format) (g h : History) (i : Item) (r : Row) : Type 0 where
+  previous : previousOk f g i ≡ previousOk f h i
+  parent : parentOk f g (r .parent) i ≡ parentOk f h (r .parent) i
+  time : timeOk g i ≡ timeOk h i
+  phase : phaseOk g i ≡ phaseOk h i
+  only : onlyOk g i ≡ onlyOk h i
+  content : contentOk f g i ≡ contentOk f h i
+  key : keyOf g (r .writer) i ≡ keyOf h (r .writer) i
 
-  -- what is told of an item alike by any history and its main items, is told alike by both boards
-  module _ (q : mainList g ≡ mainList h) {i : Item} where
-    across : {X : Type 0} (r : History → Item → X) → ((h : History) → Orderly f h → r h i ≡ r (mains h) (unsigned i)) → r g i ≡ r h i
-    across r same = same g (orderly a) ∙ ap (λ (k : History). r k (unsigned i)) (same-mains q) ∙ sym (same h (orderly b))
+-- so it is of a main item, after boards with the same main items
+module _ {f : Format} {ws vs xs ys : List ℕ} {g h : History} (a : Passed f ws vs g) (b : Passed f xs ys h) (q : mainList g ≡ mainList h)
+    (i : Item) (t : T (isMain i)) where
+  -- what any history and its main items alone tell alike
+  across : {X : Type 0} (r : History → Item → X) → ((h : History) → Orderly f h → r h i ≡ r (mains h) (unsigned i)) → r g i ≡ r h i
+  across r same =
+      let alone : mains g ≡ mains h = sym (replay-mains a) ∙ ap replay q ∙ replay-mains b in
+      same g (orderly a) ∙ ap (λ (k : History). r k (unsigned i)) alone ∙ sym (same h (orderly b))
 
-    carry : (r : History → Item → Bool) → ((h : History) → Orderly f h → r h i ≡ r (mains h) (unsigned i)) → T (r g i) → T (r h i)
-    carry r same = subst T (across r same)
+  same-rules : (l : Listed f (i .head)) → SameRules f g h i (l .row)
+  same-rules l =
+      let r = l .row in
+      record {
+        previous = across (previousOk f) (λ h o. previous-same o i l t);
+        parent = across (λ h i. parentOk f h (r .parent) i) (λ h o. parent-rule o i l t (r .parent) (genesis-law l));
+        time = across timeOk (λ h o. time-same o i l t);
+        phase = across phaseOk (λ h o. phase-same o i l t);
+        only = across onlyOk (λ h o. only-same o i l t);
+        content = across (contentOk f) (λ h o. content-same o i l t);
+        key = across (λ h i. keyOf h (r .writer) i) (λ h o. same-key o i l t (r .writer));
+      }
 
--- a main item meets the rules after both boards or after none, whatever their hidden items: main items depend on main items alone,
--- signatures aside
-pub main-independent : {f : Format} {ws vs ws′ vs′ : List ℕ} {g h : History} {v : List ℕ} {i : Item} → Passed f ws vs g → Passed f ws′ vs′ h
-    → mainList g ≡ mainList h → T (isMain i) → Meets f g v i → Meets f h v i
-main-independent {f} {i} a b q t m =
-    let l = m .listed in
-    let r = l .row in
-    record {
-      listed = l;
-      counted = m .counted;
-      shaped = m .shaped;
-      address = m .address;
-      previous = carry a b q (previousOk f) (λ h o. previous-same o i l t) (m .previous);
-      parent = carry a b q (λ h i. parentOk f h (r .parent) i) (λ h o. parent-rule o i l t (r .parent) (genesis-law l)) (m .parent);
-      time = carry a b q timeOk (λ h o. time-same o i l t) (m .time);
-      phase = carry a b q phaseOk (λ h o. phase-same o i l t) (m .phase);
-      only = carry a b q onlyOk (λ h o. only-same o i l t) (m .only);
-      content = carry a b q (contentOk f) (λ h o. content-same o i l t) (m .content);
-      verdict = m .verdict ∙ ap goodVerdict (across a b q (λ h i. keyOf h (r .writer) i) (λ h o. same-key o i l t (r .writer)));
-    }
+  -- the checks of it say the same, each of them
+  pub same-checks : (v : List ℕ) (l : Listed f (i .head)) → checks f g v (l .row) i ≡ checks f h v (l .row) i
+  unfolding checks
+  same-checks v l =
+      let s = same-rules l in
+      rw (s .previous, s .parent, s .time, s .phase, s .only, s .content, s .key)
+
+  -- and it meets the rules after both or after neither
+  pub main-independent : {v : List ℕ} → Meets f g v i → Meets f h v i
+  main-independent m =
+      let s = same-rules (m .listed) in
+      record {
+        listed = m .listed;
+        counted = m .counted;
+        shaped = m .shaped;
+        address = m .address;
+        previous = subst T (s .previous) (m .previous);
+        parent = subst T (s .parent) (m .parent);
+        time = subst T (s .time) (m .time);
+        phase = subst T (s .phase) (m .phase);
+        only = subst T (s .only) (m .only);
+        content = subst T (s .content) (m .content);
+        verdict = m .verdict ∙ ap goodVerdict (s .key);
+      }
 
 -- ---- the main items as a board of their own
 
 -- the main items of a history h, in no more words than its words ws, as a passed history
-pub record MainPart (f : Format) (ws : List ℕ) (h : History) : Type 0 where
-  pub words : List ℕ
-  pub verdicts : List ℕ
-  pub history : History
-  pub passed : Passed f words verdicts history
-  pub items : map (λ e. e .item) history ≡ mainItems h
-  pub mains : mainItems history ≡ mainItems h
-  pub short : length words ≤ length ws
+record MainPart (f : Format) (ws : List ℕ) (h : History) : Type 0 where
+  words : List ℕ
+  verdicts : List ℕ
+  history : History
+  passed : Passed f words verdicts history
+  items : map (λ e. e .item) history ≡ mainItems h
+  mains : mainItems history ≡ mainItems h
+  short : length words ≤ length ws
 
 -- one more item
 module _ {f : Format} {us ts v : List ℕ} {g : History} {i : Item} (b : Passed f us ts g) (m : Meets f g v i) (p : MainPart f us g) where
@@ -304,7 +336,7 @@ module _ {f : Format} {us ts v : List ℕ} {g : History} {i : Item} (b : Passed 
   with-main t =
       let e = entryOf (p .history) (length (p .words)) i in
       let one = is-true (isMain i) t in
-      let meets = main-independent b (p .passed) (ap (map unsigned) (sym (p .mains))) t m in
+      let meets = main-independent b (p .passed) (ap (map unsigned) (sym (p .mains))) i t m in
       record {
         words = p .words ++ wordsOf i;
         verdicts = p .verdicts ++ v;
@@ -329,8 +361,8 @@ module _ {f : Format} {us ts v : List ℕ} {g : History} {i : Item} (b : Passed 
         short = simp length-append (omega (arith, p .short));
       }
 
--- a board's main items alone pass, with the verdict words of their own
-pub main-alone : {f : Format} {ws vs : List ℕ} {h : History} → Passed f ws vs h → MainPart f ws h
+-- a board's main items alone pass
+main-alone : {f : Format} {ws vs : List ℕ} {h : History} → Passed f ws vs h → MainPart f ws h
 unfolding keep
 main-alone none = record { words = []; verdicts = []; history = []; passed = none; items = refl; mains = refl; short = zero-le }
 main-alone (next us ts g v i b m) =

@@ -18,11 +18,11 @@ use Rattle.model.proofs.Tests.{and-iff}
 use Rattle.model.proofs.Lists.{every}
 use Rattle.model.proofs.Numbers.{last-found}
 use Rattle.model.proofs.State.{any-last}
-use Rattle.model.specs.Standing.{anyBelow, unionBelow, numbered, roundAt, openContests, enabledSet}
-use Rattle.model.proofs.Rounds.{anyBelow-none, anyBelow-found, unionBelow-next, roundAt-bound, any-rounds, rounds-small}
 use Rattle.index.specs.Kept.{before, Kept}
+use Rattle.state.specs.Standing.{anyBelow, unionBelow, numbered, roundAt, openContests, enabledSet}
 use Rattle.state.specs.declared.State.{State}
 use Rattle.state.specs.Stands.{Stands}
+use Rattle.state.proofs.Rounds.{anyBelow-none, anyBelow-found, unionBelow-next, roundAt-bound, any-rounds, rounds-small}
 use Rattle.rounds.specs.Open.{InForce, openUnder, contestsUnder}
 
 -- the round in force with the number j is a round

@@ -21,16 +21,16 @@ use Rattle.model.proofs.Lists.{count-few}
 use Rattle.model.proofs.Sets.{one-shl}
 use Rattle.model.proofs.State.{count-snoc, first-snoc, last-snoc}
 use Rattle.model.proofs.Unchecked.{length-history}
-use Rattle.model.proofs.Rounds.{roundAt-snoc}
-use Rattle.model.specs.Standing.{definedSet, definedFrom}
-use Rattle.model.proofs.Defined.{definedSet-snoc}
 use Rattle.format.specs.Base.{base}
 use Rattle.index.specs.Kept.{before, itemAfter}
 use Rattle.index.specs.Known.{Passing}
 use Rattle.index.specs.declared.Known.{Known}
+use Rattle.state.specs.Standing.{definedSet, definedFrom}
 use Rattle.state.specs.declared.State.{State}
 use Rattle.state.specs.After.{later, earliest, contestsAfter, slotAfter}
 use Rattle.state.specs.Stands.{Stands}
+use Rattle.state.proofs.Rounds.{roundAt-snoc}
+use Rattle.state.proofs.Defined.{definedSet-snoc}
 use Rattle.state.proofs.Next.{Next, next-kind, next-code, next-end, passing-next, contest-number, round-number}
 
 -- ---- before the first item

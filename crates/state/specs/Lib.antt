@@ -1,3 +1,4 @@
--- What the running state stands for, what one more item makes of it, and where a check stands.
+-- What a running audit keeps in place of searching, what one more item makes of it, what the state stands for, and where a check stands.
+pub mod Standing
 pub mod After
 pub mod Stands

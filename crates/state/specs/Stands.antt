@@ -14,7 +14,6 @@ use Rattle.model.specs.History as history
 use Rattle.model.specs.History.{first, main, typed, placeOf, entryOf}
 use Rattle.model.specs.Counted.{counted}
 use Rattle.model.specs.Audit.{itemLimit}
-use Rattle.model.specs.Standing.{roundAt, definedSet}
 use Rattle.format.specs.Base.{base}
 use Rattle.format.specs.Table.{rowOf}
 use Rattle.format.specs.declared.table.Row.{Row}
@@ -22,6 +21,7 @@ use Rattle.format.specs.declared.table.Listing.the-variants.{Listed}
 use Rattle.index.specs.Kept.{before, itemAfter, Kept}
 use Rattle.index.specs.Known.{knownOf}
 use Rattle.index.specs.declared.Known.{Known}
+use Rattle.state.specs.Standing.{roundAt, definedSet}
 use Rattle.state.specs.declared.State.{State}
 
 -- the state after the first s .items items of the board

@@ -6,7 +6,7 @@ use Rattle.model.specs.Format.{Format}
 use Rattle.model.specs.Item.{Item, time}
 use Rattle.model.specs.History.{History, itemNo, sessionNumber, sessionContests}
 use Rattle.model.specs.Content.{sessionOk, commitmentOk, ballotOk}
-use Rattle.model.specs.Standing.{enabledSet}
+use Rattle.state.specs.Standing.{enabledSet}
 
 -- the rules of session, commitments and ballot
 abbrev pub votingOk : Format → History → Item → Bool

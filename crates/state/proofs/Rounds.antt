@@ -12,22 +12,22 @@ use lib.ListN.{length, getD, take, drop, length-take, List·getD-eq-default}
 use lib.Seq.{getD-take, getD-drop}
 use lib.Dec.{T, eqb, ltb, eqb→eq}
 use borrow.Author.Tests.{eqb-true, eqb-false, ltb-true, ltb-false, eq-eqb, ne-eqb}
 use Rattle.model.specs.Lists.{if_then_else_, part, any, keep, latest}
 use Rattle.model.specs.Words.{countOf, member}
 use Rattle.model.specs.Codes.{roundType}
 use Rattle.model.specs.Format.{Format}
 use Rattle.model.specs.Item.{Item, itemAt, contentAt, code, word}
 use Rattle.model.specs.History.{History, Entry, absent, entry, entryOf, itemNo, itemsWith, lastFrom, typed, placeOf, history}
 use Rattle.model.specs.Phase.{roundNumber, roundContests, sameRound, rounds, isOpen}
 use Rattle.model.specs.Content.{enables, roundOk}
-use Rattle.model.specs.Standing.{anyBelow, unionBelow, numbered, roundAt, slots, openContests, enabledSet}
+use Rattle.state.specs.Standing.{anyBelow, unionBelow, numbered, roundAt, slots, openContests, enabledSet}
 use Rattle.model.specs.Sound.{Meets, Passed, none, next}
 use Rattle.model.proofs.Tests.{by-test, passes, by-if, facts}
 use Rattle.model.proofs.Lists.{Every, every-snoc}
 use Rattle.model.proofs.Numbers.{lastEntry, entry-last}
 use Rattle.model.proofs.State.{last-snoc, any-last}
 use Rattle.model.proofs.Rules.{content-rules}
 use Rattle.model.proofs.Sets.{member-zero, member-or}
 
 -- ---- whether any number below n passes a test, and the union of the sets of the numbers below n: a loop from 0 up
 

@@ -9,20 +9,20 @@ use mathlib.Core.List.{List, [], _∷_, _++_}
 use lib.Bits.{bitAnd, bitOr, or-lt, and-le-r}
 use lib.Dec.{T, eqb, eqb→eq}
 use lib.Pow.{pow-lt}
 use Rattle.model.specs.Lists.{if_then_else_, any}
 use Rattle.model.specs.Words.{member, allIn}
 use Rattle.model.specs.Codes.{contestType}
 use Rattle.model.specs.Format.{Format}
 use Rattle.model.specs.Item.{Item, code, time, word}
 use Rattle.model.specs.History.{History, Entry, entryOf, itemNo, typed, sessionNumber, sessionContests}
 use Rattle.model.specs.Content.{defines, contestsOk, mayVote, contestOk}
-use Rattle.model.specs.Standing.{enabledSet, withContest, definedFrom, definedSet}
+use Rattle.state.specs.Standing.{enabledSet, withContest, definedFrom, definedSet}
 use Rattle.model.specs.Sound.{Passed}
 use Rattle.model.proofs.Tests.{by-test, passes, facts}
 use Rattle.model.proofs.Lists.{Every}
 use Rattle.model.proofs.Rules.{content-rules}
 use Rattle.model.proofs.Sets.{member-zero, member-one, member-or, member-and, allIn-ext, allIn-member, size-zero}
-use Rattle.model.proofs.Rounds.{RoundSmall, WordsSmall, member-enabled, enabledSet-small, passed-each}
+use Rattle.state.proofs.Rounds.{RoundSmall, WordsSmall, member-enabled, enabledSet-small, passed-each}
 
 -- ---- the set
 
