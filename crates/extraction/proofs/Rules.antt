@@ -16,7 +16,6 @@ use Rattle.model.specs.Item.{Item, word}
 use Rattle.model.specs.History.{History, itemNo}
 use Rattle.model.specs.Counted.{counted, contents}
 use Rattle.model.specs.Content.{fingerprintOk, trusteesOk}
-use Rattle.model.proofs.Sets.{size-ones}
 use Rattle.sha256_block.specs.Fips.{sha256Words}
 use Rattle.format.specs.Base.{base}
 use Rattle.index.specs.declared.Known.{Known}
@@ -24,6 +23,7 @@ use Rattle.index.specs.Kept.{before, itemAfter}
 use Rattle.index.proofs.Counts.{hasWords}
 use Rattle.state.specs.declared.State.{State}
 use Rattle.state.specs.Stands.{AtItem}
+use Rattle.state.proofs.Sets.{size-ones}
 use Rattle.state.proofs.At.{at-words, at-content-words}
 use Rattle.fields.proofs.Words.{is-type, not-type, content-length}
 

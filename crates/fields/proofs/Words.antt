@@ -13,7 +13,6 @@ use Rattle.model.specs.Lists.{part}
 use Rattle.model.specs.Words.{pair}
 use Rattle.model.specs.Item.{Item, code, word}
 use Rattle.model.specs.History.{History, Entry, absent, entry, itemNo}
-use Rattle.model.proofs.Sets.{size-ones, size-few}
 use Rattle.model.proofs.Parts.{length-part}
 use Rattle.model.proofs.Numbers.{entry-none}
 use Rattle.format.specs.declared.item.Item as layout
@@ -24,6 +23,7 @@ use Rattle.index.specs.Known.{IsKnown}
 use Rattle.index.proofs.Reading.{known-item}
 use Rattle.state.specs.declared.State.{State}
 use Rattle.state.specs.Stands.{AtItem}
+use Rattle.state.proofs.Sets.{size-ones, size-few}
 use Rattle.state.proofs.At.{at-code, at-places, at-content-words}
 use Rattle.words.proofs.Runs.{getD-part, pair-part}
 

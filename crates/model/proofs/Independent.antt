@@ -27,7 +27,7 @@ use Rattle.model.proofs.Lists.{Every, every, every-map, count-few, coun
 use Rattle.model.proofs.Numbers.{OnlyMain, MainAt, same-number, first-main, first-at, last-found, last-number}
 use Rattle.model.proofs.State.{any-last, mainItems-snoc}
 use Rattle.model.proofs.Table.{main-low, asksNone, genesis-law}
-use Rattle.model.proofs.Sets.{allIn-ext}
+use Rattle.model.proofs.Below.{allIn-ext}
 use Rattle.model.proofs.Entries.{parent-at, Opens, Orderly, each-fine, low-main, typed-only, own-session-at, orderly}
 use Rattle.model.proofs.Alone.{view, mains, bare, look, parent-same, session-same, counted-mains, same-voter, same-key, replay-mains, item-unsigned, end-alone}
 

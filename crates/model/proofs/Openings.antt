@@ -113,7 +113,7 @@ module _ {f : Format} {ws vs : List ℕ} {h : History} (p : Passed f ws vs h) wh
   start o = entry h (verifier o) .parent
 
   abbrev ballot : ℕ → ℕ
-  ballot o = entry h (start o) .parent
+  ballot o = trackBallot h (verifier o)
 
   module _ (o : ℕ) (opened : code (itemNo h o) ≡ voterOpeningType) where
     pub track-types : (code (itemNo h (verifier o)) ≡ verifierType) × (code (itemNo h (start o)) ≡ trackType)

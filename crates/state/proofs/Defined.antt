@@ -16,12 +16,13 @@ use Rattle.model.specs.Format.{Format}
 use Rattle.model.specs.Item.{Item, code, time, word}
 use Rattle.model.specs.History.{History, Entry, entryOf, itemNo, typed, sessionNumber, sessionContests}
 use Rattle.model.specs.Content.{defines, contestsOk, mayVote, contestOk}
-use Rattle.state.specs.Standing.{enabledSet, withContest, definedFrom, definedSet}
 use Rattle.model.specs.Sound.{Passed}
 use Rattle.model.proofs.Tests.{by-test, passes, facts}
 use Rattle.model.proofs.Lists.{Every}
 use Rattle.model.proofs.Rules.{content-rules}
-use Rattle.model.proofs.Sets.{member-zero, member-one, member-or, member-and, allIn-ext, allIn-member, size-zero}
+use Rattle.model.proofs.Below.{allIn-ext}
+use Rattle.state.specs.Standing.{enabledSet, withContest, definedFrom, definedSet}
+use Rattle.state.proofs.Sets.{member-zero, member-one, member-or, member-and, allIn-member, size-zero}
 use Rattle.state.proofs.Rounds.{RoundSmall, WordsSmall, member-enabled, enabledSet-small, passed-each}
 
 -- ---- the set

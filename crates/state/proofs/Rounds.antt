@@ -20,14 +20,14 @@ use Rattle.model.specs.Item.{Item, itemAt, contentAt, code, word}
 use Rattle.model.specs.History.{History, Entry, absent, entry, entryOf, itemNo, itemsWith, lastFrom, typed, placeOf, history}
 use Rattle.model.specs.Phase.{roundNumber, roundContests, sameRound, rounds, isOpen}
 use Rattle.model.specs.Content.{enables, roundOk}
-use Rattle.state.specs.Standing.{anyBelow, unionBelow, numbered, roundAt, slots, openContests, enabledSet}
 use Rattle.model.specs.Sound.{Meets, Passed, none, next}
 use Rattle.model.proofs.Tests.{by-test, passes, by-if, facts}
 use Rattle.model.proofs.Lists.{Every, every-snoc}
 use Rattle.model.proofs.Numbers.{lastEntry, entry-last}
 use Rattle.model.proofs.State.{last-snoc, any-last}
 use Rattle.model.proofs.Rules.{content-rules}
-use Rattle.model.proofs.Sets.{member-zero, member-or}
+use Rattle.state.specs.Standing.{anyBelow, unionBelow, numbered, roundAt, slots, openContests, enabledSet}
+use Rattle.state.proofs.Sets.{member-zero, member-or}
 
 -- ---- whether any number below n passes a test, and the union of the sets of the numbers below n: a loop from 0 up
 

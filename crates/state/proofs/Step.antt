@@ -18,7 +18,6 @@ use Rattle.model.specs.History.{Entry, firstFrom, last, lastFrom, main, typed, 
 use Rattle.model.specs.Counted.{counted}
 use Rattle.model.proofs.Tests.{by-test}
 use Rattle.model.proofs.Lists.{count-few}
-use Rattle.model.proofs.Sets.{one-shl}
 use Rattle.model.proofs.State.{count-snoc, first-snoc, last-snoc}
 use Rattle.model.proofs.Unchecked.{length-history}
 use Rattle.format.specs.Base.{base}
@@ -29,6 +28,7 @@ use Rattle.state.specs.Standing.{definedSet, definedFrom}
 use Rattle.state.specs.declared.State.{State}
 use Rattle.state.specs.After.{later, earliest, contestsAfter, slotAfter}
 use Rattle.state.specs.Stands.{Stands}
+use Rattle.state.proofs.Sets.{one-shl}
 use Rattle.state.proofs.Rounds.{roundAt-snoc}
 use Rattle.state.proofs.Defined.{definedSet-snoc}
 use Rattle.state.proofs.Next.{Next, next-kind, next-code, next-end, passing-next, contest-number, round-number}

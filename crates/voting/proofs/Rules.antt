@@ -15,13 +15,13 @@ use Rattle.model.specs.Codes.{sessionType, voterCommitmentType, serverCommitmen
 use Rattle.model.specs.Item.{Item, code, word}
 use Rattle.model.specs.History.{History, itemNo}
 use Rattle.model.specs.Content.{contestsOk, cryptogramsOk, sessionOk, commitmentOk, ballotOk}
-use Rattle.model.proofs.Sets.{size-ones}
 use Rattle.format.specs.Base.{base}
 use Rattle.index.specs.declared.Known.{Known}
 use Rattle.index.specs.Kept.{before, itemAfter}
 use Rattle.state.specs.Standing.{enabledSet}
 use Rattle.state.specs.declared.State.{State}
 use Rattle.state.specs.Stands.{AtItem}
+use Rattle.state.proofs.Sets.{size-ones}
 use Rattle.state.proofs.Rounds.{history-words, rounds-small}
 use Rattle.state.proofs.Defined.{allIn-mayVote}
 use Rattle.state.proofs.At.{at-code, at-session, at-time, at-content-words}

@@ -1,19 +1,20 @@
 -- Sets of numbers as words: which numbers a word holds after an operation on words, and each test of a set as one test of a word, which is
 -- how the code makes it. Of 32 bits, `2 ^ 32 - 1 - w` is what the code writes `!w`. Assumes nothing.
 use Prim.Native.Nat.{ℕ, zero, suc, _+_, _-_, _*_, _/_, _%_, _^_, _≤_, _<_, zero-le}
-use native.Mathlib.Nat.{div-one, zero-div, mod-lt, mod-eq-of-lt, one-mul, pow-suc, div-add-mod', le-of-suc-le-suc, not-suc-le-zero, le-refl, mul-mod-left, zero-add, mul-div-cancel}
+use native.Mathlib.Nat.{div-one, zero-div, mod-lt, mod-eq-of-lt, one-mul, pow-suc, div-add-mod', le-of-suc-le-suc, not-suc-le-zero, mul-mod-left, zero-add, mul-div-cancel}
 use native.Mathlib.Omega.{arith}
 use mathlib.Core.Path.{_≡_, refl, sym, ap, _∙_}
 use mathlib.Core.Bool.{Bool, true, false, not, _&&_, _||_, Bool·not-not}
 use lib.Arith.{lt-one, digits-div, digits-mod}
 use lib.Bits.{bitAnd, bitOr, and-shr, or-shr, and-mod, or-mod, and-lt}
 use lib.Count.{onesIn, ones, ones-step}
-use lib.Dec.{T, eqb, ltb, eqb·zero-suc, eqb·suc-zero, eqb·suc-suc, leb·suc-zero, leb·suc-suc, lit<}
+use lib.Dec.{eqb, ltb, eqb·zero-suc, eqb·suc-zero, eqb·suc-suc, leb·suc-zero, leb·suc-suc, lit<}
 use lib.Pow.{pow-lt, shr-shr}
 use borrow.Author.Tests.{eqb-true, eqb-false, eq-eqb, ne-eqb, lt-ltb}
 use Rattle.model.specs.Lists.{_⇒_}
 use Rattle.model.specs.Words.{member, size, everyBelow, allIn}
-use Rattle.model.proofs.Tests.{by-test, passes}
+use Rattle.model.proofs.Tests.{by-test}
+use Rattle.model.proofs.Below.{everyBelow-ext}
 
 -- ---- the digits of a word
 
@@ -90,11 +91,6 @@ member-not = member-not-of 32
 
 -- ---- every number below n, from the lowest on
 
-pub everyBelow-ext : (n : ℕ) (p q : ℕ → Bool) → ((j : ℕ) → j < n → p j ≡ q j) → everyBelow n p ≡ everyBelow n q
-unfolding everyBelow
-everyBelow-ext zero p q same = refl
-everyBelow-ext (suc n) p q same = rw (same n (le-refl (suc n)), everyBelow-ext n p q (λ j l. same j (omega arith)))
-
 everyBelow-low : (n : ℕ) (p : ℕ → Bool) → everyBelow (suc n) p ≡ (p 0 && everyBelow n (λ j. p (suc j)))
 unfolding everyBelow
 everyBelow-low zero p = refl
@@ -136,11 +132,6 @@ all-below (suc n) w (suc m) l =
     (by-test (member w 0) (λ q. rw q) (λ q. rw q))
 
 -- ---- all in a set
-
-pub allIn-ext : (w : ℕ) (p q : ℕ → Bool) → ((j : ℕ) → j < 32 → T (member w j) → p j ≡ q j) → allIn w p ≡ allIn w q
-unfolding allIn _⇒_
-allIn-ext w p q same =
-    everyBelow-ext 32 _ _ (λ j l. by-test (member w j) (λ t. rw t (same j l (passes t))) (λ t. rw t))
 
 -- the code's `w & !v == 0`
 pub allIn-member : (v w : ℕ) → v < 2 ^ 32 → w < 2 ^ 32 → allIn w (member v) ≡ eqb (bitAnd w ((2 ^ 32 - 1) - v)) 0
