@@ -4,8 +4,8 @@
 //!
 //! The rules: `sha256`, `format`, `audit`, `compare`, `ancestry`, `program`.
 //! The boards: `random`, `plan`, `sound`, `crowded`, `faults`, `damage`, `collisions`.
-//! The checks: `interface`, `header`, `stand_in`, `told`, `closed`, `opened`, `reached`, `calls`, `checks`,
-//! `stored`.
+//! The checks: `interface`, `header`, `stand_in`, `told`, `closed`, `opened`, `reached`, `hidden`, `calls`,
+//! `checks`, `stored`.
 
 pub mod ancestry;
 pub mod audit;
@@ -19,6 +19,7 @@ pub mod damage;
 pub mod faults;
 pub mod format;
 pub mod header;
+pub mod hidden;
 pub mod interface;
 pub mod opened;
 pub mod plan;

@@ -10,6 +10,7 @@ use reference::checks::*;
 use reference::collisions;
 use reference::crowded::crowded;
 use reference::header::{check_header, check_header_mistakes};
+use reference::hidden::check_hidden_tracks;
 use reference::interface::{library, Interface};
 use reference::program::{bytes, program};
 use reference::random::Random;
