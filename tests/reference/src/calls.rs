@@ -60,6 +60,11 @@ impl Call<'_> {
         Ok(())
     }
 
+    /// The words of the answer.
+    pub fn answer(&self) -> &[u32] {
+        self.buffers[0].0.given()
+    }
+
     /// A board's index table and ballot table.
     fn tables(&self, board: &Passed) -> &[(Buffer, &'static str); 2] {
         self.buffers[board.index..board.index + 2].try_into().expect("two tables")

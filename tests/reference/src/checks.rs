@@ -5,7 +5,7 @@ use crate::audit::{audit, refused, Report};
 use crate::calls::{call_ancestry, call_audit, call_compare, Tally};
 use crate::crowded::{crowded, most_ballots, Fate};
 use crate::damage::{damage_plan, damage_words, no_board};
-use crate::faults::{faults, rank, spoil_more, Fault};
+use crate::faults::{faults, rank, spoil_more, Fault, Faulty};
 use crate::format::*;
 use crate::hidden::remove_hidden;
 use crate::interface::*;
@@ -77,6 +77,13 @@ impl Default for Makers {
     }
 }
 
+impl Makers {
+    /// The fault of a seed: each in turn.
+    pub fn fault(&self, seed: u64) -> &Fault {
+        &self.faults[seed as usize % self.faults.len()]
+    }
+}
+
 fn sound_case(name: String, made: &Made, random: &mut Random) -> Case {
     let laid = made.plan.lay(sha256);
     let end = (0..laid.addresses.len()).rev().find(|&i| made.plan.items[i].kind == MAIN).expect("a main item");
@@ -126,26 +133,27 @@ fn board_for_faults(random: &mut Random) -> Made {
 /// Makes a case's name of what it is.
 type Name<'a> = &'a dyn Fn(&str) -> String;
 
+/// The group and seed that make a case again, and what it is.
+fn case_name(group: Group, seed: u64, what: &str) -> String {
+    format!("{} {seed} ({what})", format!("{group:?}").to_lowercase())
+}
+
+/// The numbers that a case is made from.
+fn seeded(group: Group, seed: u64) -> Random {
+    Random::new(seed.wrapping_mul(8).wrapping_add(group as u64))
+}
+
 /// The case of a group and seed. The same seed gives the same case.
 pub fn case(makers: &Makers, group: Group, seed: u64) -> Case {
-    let random = &mut Random::new(seed.wrapping_mul(8).wrapping_add(group as u64));
-    let name = |what: &str| format!("{} {seed} ({what})", format!("{group:?}").to_lowercase());
+    let random = &mut seeded(group, seed);
+    let name = |what: &str| case_name(group, seed, what);
     match group {
         Group::Sound => {
             let shape = any_shape(random, *[15, 60, 150].get(seed as usize % 3).unwrap_or(&60));
             let made = make(random, sha256, shape);
             sound_case(name("sound"), &made, random)
         }
-        Group::Faults => {
-            let fault = &makers.faults[seed as usize % makers.faults.len()];
-            loop {
-                let made = board_for_faults(random);
-                if let Some(faulty) = fault.apply(&made, random) {
-                    let known = Known::Refused(faulty.number, faulty.items);
-                    return faulty_case(name(&fault.reason), &made, &faulty.plan, known, random);
-                }
-            }
-        }
+        Group::Faults => case_with_fault(makers, seed).0,
         Group::Order => loop {
             let fault = random.pick(&makers.faults);
             let made = board_for_faults(random);
@@ -183,6 +191,20 @@ pub fn case(makers: &Makers, group: Group, seed: u64) -> Case {
             let fate = [Fate::Closed, Fate::Open, Fate::Opened][seed as usize % 3];
             let made = most_ballots(random, fate);
             sound_case(name(&format!("ballots, {fate:?}").to_lowercase()), &made, random)
+        }
+    }
+}
+
+/// The case of a seed in the group of faults, and the plan that it was laid out from.
+pub fn case_with_fault(makers: &Makers, seed: u64) -> (Case, Faulty) {
+    let random = &mut seeded(Group::Faults, seed);
+    let fault = makers.fault(seed);
+    loop {
+        let made = board_for_faults(random);
+        if let Some(faulty) = fault.apply(&made, random) {
+            let known = Known::Refused(faulty.number, faulty.items);
+            let name = case_name(Group::Faults, seed, &fault.reason);
+            return (faulty_case(name, &made, &faulty.plan, known, random), faulty);
         }
     }
 }

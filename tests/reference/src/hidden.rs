@@ -1,8 +1,13 @@
-//! Main items depend on no hidden item: with other hidden tracks an accepted board reports the same main list.
+//! Main items depend on no hidden item: with other hidden tracks an accepted board reports the same main
+//! list, and without any a main item that is refused is refused with the same number.
 
 use crate::audit::audit;
+use crate::calls::{call_audit, Tally};
+use crate::checks::{case_with_fault, Case, Known, Makers};
+use crate::faults::Faulty;
 use crate::format::*;
-use crate::plan::{Link, Plan};
+use crate::interface::*;
+use crate::plan::{Link, Plan, Previous};
 use crate::random::Random;
 use crate::sha256::sha256;
 use crate::sound::{any_shape, make};
@@ -26,6 +31,8 @@ fn remove(plan: &mut Plan, goes: impl Fn(usize) -> bool) {
         plan.remove(i, 0);
     }
 }
+
+// ---- accepted boards ----
 
 /// The main number of the cast or spoil under each main item; 0 where there is none.
 fn closed_mains(words: &[u32], index: &[u32], items: usize) -> Vec<u32> {
@@ -59,4 +66,76 @@ pub fn check_hidden_tracks(seed: u64) -> Result<(), String> {
         return Err(format!("hidden tracks, seed {seed}: the main list's report changes with them"));
     }
     Ok(())
+}
+
+// ---- boards refused at a main item ----
+
+/// A board with hidden items before the main item at which it is refused, and the board without them.
+pub struct Bared {
+    pub reason: String,
+    board: Case,
+    bare: Case,
+}
+
+/// The board of a seed in the group of faults, if it is such a board.
+pub fn bared(makers: &Makers, seed: u64) -> Option<Bared> {
+    let (board, faulty) = case_with_fault(makers, seed);
+    if !is_refused_at_main(&faulty) {
+        return None;
+    }
+    let (plan, mains) = without_hidden(&faulty);
+    let laid = plan.lay(sha256);
+    let bare = Case {
+        name: format!("{} without hidden items", board.name),
+        words: laid.words,
+        verdicts: laid.verdicts,
+        known: Known::Refused(faulty.number, mains),
+        ..board.clone()
+    };
+    Some(Bared { reason: makers.fault(seed).reason.clone(), board, bare })
+}
+
+/// Whether a board is refused by one of the checks 7 to 16, at a main item that stands behind hidden ones and
+/// names none of them.
+fn is_refused_at_main(faulty: &Faulty) -> bool {
+    if !(7..=16).contains(&faulty.number) {
+        return false;
+    }
+    let items = &faulty.plan.items;
+    let is_hidden = |i: usize| items[i].kind == HIDDEN;
+    let refused = &items[faulty.items];
+    let names_hidden = matches!(refused.parent, Link::Item(i) if is_hidden(i))
+        || matches!(refused.previous, Previous::Item(i) if is_hidden(i));
+    refused.kind == MAIN && !names_hidden && (0..faulty.items).any(is_hidden)
+}
+
+/// The board without hidden items, and how many main items stand before the refused one.
+fn without_hidden(faulty: &Faulty) -> (Plan, usize) {
+    let mut plan = faulty.plan.clone();
+    let mains = plan.items[..faulty.items].iter().filter(|s| s.kind == MAIN).count();
+    remove(&mut plan, |i| faulty.plan.items[i].kind == HIDDEN);
+    // Verdicts that end at the refused item still do.
+    plan.verdicts_cut = plan.verdicts_cut.map(|end| end - VERDICT_WORDS * (faulty.items - mains));
+    (plan, mains)
+}
+
+/// An audit refuses the same main item of both with the same number.
+pub fn check_bared(with: &Interface, bared: &Bared) -> Result<(), String> {
+    for case in [&bared.board, &bared.bare] {
+        let Known::Refused(number, items) = case.known else { panic!("a board that is refused") };
+        let given = refusal(with, case);
+        if given != (number, items) {
+            let (n, i) = given;
+            return Err(format!("{}: made to be refused {number} at {items}, refused {n} at {i}", case.name));
+        }
+    }
+    Ok(())
+}
+
+/// The number that an audit gives, and the items passed.
+fn refusal(with: &Interface, case: &Case) -> (u32, usize) {
+    let lengths = [INDEX_NEED, BALLOTS_NEED, AUDIT_ANSWER];
+    let call = call_audit(with, case, lengths, &mut Random::new(0), &mut Tally::default());
+    let answer = call.answer();
+    (answer[audit_answer::NUMBER], answer[audit_answer::ITEMS] as usize)
 }

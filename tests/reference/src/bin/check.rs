@@ -10,7 +10,7 @@ use reference::checks::*;
 use reference::collisions;
 use reference::crowded::crowded;
 use reference::header::{check_header, check_header_mistakes};
-use reference::hidden::check_hidden_tracks;
+use reference::hidden::{bared, check_bared, check_hidden_tracks, Bared};
 use reference::interface::{library, Interface};
 use reference::program::{bytes, program};
 use reference::random::Random;
@@ -20,7 +20,7 @@ use reference::sound::Shape;
 use reference::stand_in::{make_mistake, stand_in, About, Mistake, MISTAKES};
 use reference::stored::check_folder;
 use reference::told::PROPERTIES;
-use std::collections::BTreeMap;
+use std::collections::{BTreeMap, BTreeSet};
 use std::fs;
 use std::path::{Path, PathBuf};
 use std::process::{exit, Command};
@@ -94,6 +94,7 @@ fn main() {
     let tables = stored_boards(&options);
     collision_boards();
     hidden_tracks();
+    refused_mains();
     mistakes_are_found();
     if tables > 0 {
         stored_tables_find(&options);
@@ -183,6 +184,27 @@ fn hidden_tracks() {
         }
     }
     println!("tracks     300 boards report the same main list with other hidden tracks");
+}
+
+/// Holds the reference, and the library where it is linked, to boards that are refused at a main item.
+fn refused_mains() {
+    let makers = Makers::default();
+    let boards: Vec<Bared> = (0..2_000).filter_map(|seed| bared(&makers, seed)).collect();
+    for (side, with) in [("reference", Some(stand_in())), ("library", library())] {
+        let held = with.map_or(Ok(()), |with| boards.iter().try_for_each(|bared| check_bared(&with, bared)));
+        if let Err(message) = held {
+            fail(&format!("{side}, {message}"));
+        }
+    }
+    let reasons: BTreeSet<&str> = boards.iter().map(|bared| &bared.reason[..]).collect();
+    if boards.len() < 500 || reasons.len() < 200 {
+        fail(&format!("only {} boards, for {} reasons, are refused at a main item", boards.len(), reasons.len()));
+    }
+    println!(
+        "           {} boards, refused at a main item for {} reasons, are refused there without hidden items too",
+        boards.len(),
+        reasons.len()
+    );
 }
 
 /// The checks themselves are tried on a stand-in that makes a mistake. Those about lengths are to be
@@ -305,8 +327,7 @@ fn run_case(
     counts.boards += 1;
     counts.words += case.words.len();
     if group == Group::Faults {
-        let reason = &makers.faults[seed as usize % makers.faults.len()].reason;
-        *counts.by_reason.entry(reason.clone()).or_default() += 1;
+        *counts.by_reason.entry(makers.fault(seed).reason.clone()).or_default() += 1;
     }
     Ok(())
 }
