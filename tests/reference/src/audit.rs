@@ -57,15 +57,17 @@ pub struct Counted {
 }
 
 /// The rules that can be put otherwise: a weak hash shows collisions, and a wrong reading of when a ballot
-/// may be opened tries the checks.
+/// may be opened or cast tries the checks.
 #[derive(Clone, Copy)]
 pub struct Rules {
     pub hash: Hash,
     pub may_open: fn(&Opening) -> bool,
+    /// Whether its track lets the ballot with this item number be cast.
+    pub may_cast: fn(&History, usize) -> bool,
 }
 
 /// As the paper has them.
-pub const RULES: Rules = Rules { hash: sha256, may_open: is_spoiled };
+pub const RULES: Rules = Rules { hash: sha256, may_open: is_spoiled, may_cast: |_, _| true };
 
 /// A voter opening in hand.
 pub struct Opening<'a> {
@@ -336,7 +338,7 @@ fn check(
         GENESIS => None,
         _ => history.item(parent).session,
     };
-    if !in_phase(history, board, item, session) || !opens_in_phase(rules, history, board, item, parent) {
+    if !in_phase(history, board, item, session) || !track_in_phase(rules, history, board, item, parent) {
         return Err(11);
     }
     if is_second(history, item, parent) {
@@ -407,14 +409,18 @@ fn in_phase(history: &History, board: &[u32], item: &Candidate, session: Option<
 }
 
 /// 11 as well: a voter opens a ballot that has been spoiled. The opening's parent is a verifier, the
-/// verifier's a track start, and that one's the ballot. No other hidden item depends on a phase.
-fn opens_in_phase(rules: Rules, history: &History, board: &[u32], item: &Candidate, parent: usize) -> bool {
-    if item.code != VOTER_OPENING {
-        return true;
+/// verifier's a track start, and that one's the ballot. No other hidden item depends on a phase, and a cast
+/// on no hidden item.
+fn track_in_phase(rules: Rules, history: &History, board: &[u32], item: &Candidate, parent: usize) -> bool {
+    match item.code {
+        VOTER_OPENING => {
+            let track = history.item(parent).parent;
+            let ballot = history.item(track).parent;
+            (rules.may_open)(&Opening { board, history, ballot, time: item.time })
+        }
+        CAST => (rules.may_cast)(history, parent),
+        _ => true,
     }
-    let track = history.item(parent).parent;
-    let ballot = history.item(track).parent;
-    (rules.may_open)(&Opening { board, history, ballot, time: item.time })
 }
 
 /// 12: only one.

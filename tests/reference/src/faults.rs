@@ -923,13 +923,18 @@ fn second_under(made: &Made, code: u32, random: &mut Random) -> Change {
     insert(made, at, spec)
 }
 
-fn second_decision(made: &Made, first: u32, second: u32, random: &mut Random) -> Change {
-    let decided = pick(made, first, random)?;
-    let at = voting_position(made, decided, session_of(made, decided), random);
+/// A cast or spoil of the ballot that another one decided, before the item at `at`.
+fn decide_again(made: &Made, decided: usize, second: u32, at: usize) -> Change {
     let mut spec = items(made)[decided].clone();
     spec.code = second;
     spec.time = items(made)[last_main(made, at)?].time;
     insert(made, at, spec)
+}
+
+fn second_decision(made: &Made, first: u32, second: u32, random: &mut Random) -> Change {
+    let decided = pick(made, first, random)?;
+    let at = voting_position(made, decided, session_of(made, decided), random);
+    decide_again(made, decided, second, at)
 }
 
 fn cast_after_cast(made: &Made, _: u32, random: &mut Random) -> Change {
@@ -943,6 +948,16 @@ fn cast_after_spoil(made: &Made, _: u32, random: &mut Random) -> Change {
 }
 fn spoil_after_spoil(made: &Made, _: u32, random: &mut Random) -> Change {
     second_decision(made, SPOIL, SPOIL, random)
+}
+/// A cast of a ballot that was spoiled, then opened.
+fn cast_after_opening(made: &Made, _: u32, random: &mut Random) -> Change {
+    let (opening, spoil) = opened(made, random)?;
+    let session = session_of(made, spoil);
+    let at = voting_position(made, opening, session, random);
+    if !may_vote(made, session, at) {
+        return None;
+    }
+    decide_again(made, spoil, CAST, at)
 }
 
 // ---- 13: bad content ----
@@ -1446,6 +1461,7 @@ pub fn faults() -> Vec<Fault> {
     one(12, "spoil after cast", spoil_after_cast);
     one(12, "cast after spoil", cast_after_spoil);
     one(12, "spoil after spoil", spoil_after_spoil);
+    one(12, "cast after spoil and opening", cast_after_opening);
     one(13, "contest number", contest_number);
     one(13, "threshold, t zero", threshold_t_zero);
     one(13, "threshold, t over m", threshold_t_over_m);

@@ -2,7 +2,7 @@
 //! find each of the mistakes that it can be told to make.
 
 use crate::ancestry::ancestry_with;
-use crate::audit::{audit_with, is_spoiled, Item, Opening, Rules, RULES};
+use crate::audit::{audit_with, is_spoiled, History, Item, Opening, Rules, RULES};
 use crate::compare::{compare_with, Board, Comparison, Side, Tables};
 use crate::format::*;
 use crate::interface::*;
@@ -33,6 +33,8 @@ pub enum About {
     Accepted,
     /// An opening that is to pass: it is refused.
     Refused,
+    /// A main item that depends on hidden ones.
+    Hidden,
 }
 
 /// Makes the mistakes of a list: each has a name, what it is about, and what is wrong.
@@ -88,6 +90,7 @@ mistakes! {
     SpoilOfSession, Accepted, "an opening passes with a spoil of its session";
     SpoilBehind, Accepted, "an opening passes with a spoil behind it whose time is not later";
     SpoilOfLaterTime, Refused, "an opening is refused with a spoil before it whose time is later";
+    CastOfOpened, Hidden, "a cast of an opened ballot is out of phase, not a second";
 }
 
 /// The mistake that the stand-in makes.
@@ -155,7 +158,8 @@ fn with_ballots<T>(table: &mut [u32], run: impl FnOnce(&mut [u32]) -> T) -> T {
     }
 }
 
-/// The rules by which the stand-in audits: a mistake about openings makes one of them wrong.
+/// The rules by which the stand-in audits: a mistake about openings, or casts of opened ballots, makes one of
+/// them wrong.
 fn rules() -> Rules {
     let may_open: fn(&Opening) -> bool = match made() {
         Some(Mistake::SpoilNotAskedFor) => |_| true,
@@ -170,7 +174,20 @@ fn rules() -> Rules {
         }
         _ => is_spoiled,
     };
-    Rules { may_open, ..RULES }
+    let may_cast: fn(&History, usize) -> bool = match made() {
+        Some(Mistake::CastOfOpened) => |history, ballot| !is_opened(history, ballot),
+        _ => RULES.may_cast,
+    };
+    Rules { may_open, may_cast, ..RULES }
+}
+
+/// Whether a ballot has a voter opening on its track.
+fn is_opened(history: &History, ballot: usize) -> bool {
+    let mut numbers = 1..=history.items();
+    numbers.any(|number| {
+        let item = history.item(number);
+        item.code == VOTER_OPENING && history.item(history.item(item.parent).parent).parent == ballot
+    })
 }
 
 /// Whether there is such a spoil before an opening.

@@ -94,11 +94,12 @@ fn main() {
     let tables = stored_boards(&options);
     collision_boards();
     hidden_tracks();
-    refused_mains();
+    let bared = refused_mains();
     mistakes_are_found();
     if tables > 0 {
         stored_tables_find(&options);
     }
+    bared_boards_find(&bared);
     let with = if options.stand_in { Some(stand_in()) } else { library() };
     if options.stand_in {
         println!("library    STAND-IN: the reference is held against itself");
@@ -186,8 +187,9 @@ fn hidden_tracks() {
     println!("tracks     300 boards report the same main list with other hidden tracks");
 }
 
-/// Holds the reference, and the library where it is linked, to boards that are refused at a main item.
-fn refused_mains() {
+/// Holds the reference, and the library where it is linked, to boards that are refused at a main item. Gives
+/// the boards.
+fn refused_mains() -> Vec<Bared> {
     let makers = Makers::default();
     let boards: Vec<Bared> = (0..2_000).filter_map(|seed| bared(&makers, seed)).collect();
     for (side, with) in [("reference", Some(stand_in())), ("library", library())] {
@@ -205,6 +207,7 @@ fn refused_mains() {
         boards.len(),
         reasons.len()
     );
+    boards
 }
 
 /// The checks themselves are tried on a stand-in that makes a mistake. Those about lengths are to be
@@ -214,16 +217,24 @@ fn mistakes_are_found() {
     let makers = Makers::default();
     let sound: Vec<Case> = (0..400).map(|seed| case(&makers, Group::Sound, seed)).collect();
     let full = [case(&makers, Group::Full, 0)];
-    let openings = refused_openings(&makers);
+    let openings = cases_of(&makers, "11/opening");
+    let casts = cases_of(&makers, "12/cast after spoil and opening");
     let mut broken = [0; PROPERTIES.len()];
     for mistake in [None].into_iter().chain(MISTAKES.iter().copied().map(Some)) {
         make_mistake(mistake);
         let tried: &[(&[Case], [Check; 3])] = match mistake.map(Mistake::about) {
-            None => &[(&sound, ANY_LENGTH), (&full, FULL_LENGTHS), (&sound, TOLD), (&openings, ANY_LENGTH)],
+            None => &[
+                (&sound, ANY_LENGTH),
+                (&full, FULL_LENGTHS),
+                (&sound, TOLD),
+                (&openings, ANY_LENGTH),
+                (&casts, ANY_LENGTH),
+            ],
             Some(About::Words | About::Refused) => &[(&sound, ANY_LENGTH)],
             Some(About::Lengths) => &[(&full, FULL_LENGTHS)],
             Some(About::Closed) => &[(&sound, ANY_LENGTH), (&sound, TOLD)],
             Some(About::Accepted) => &[(&openings, ANY_LENGTH), (&openings, TOLD)],
+            Some(About::Hidden) => &[(&casts, ANY_LENGTH)],
         };
         let found: Vec<[usize; 3]> = tried.iter().map(|&(cases, checks)| differences(cases, checks)).collect();
         let right = found.iter().flatten().all(|&times| (times > 0) == mistake.is_some());
@@ -244,9 +255,9 @@ fn mistakes_are_found() {
     println!("           {alone} of them without the reference, by {} properties of the tables", PROPERTIES.len());
 }
 
-/// Boards that are refused for an opening, some for each way to be.
-fn refused_openings(makers: &Makers) -> Vec<Case> {
-    let ways = (0..makers.faults.len()).filter(|&way| makers.faults[way].reason.starts_with("11/opening"));
+/// Boards that are refused for a reason that starts so, some for each.
+fn cases_of(makers: &Makers, reason: &str) -> Vec<Case> {
+    let ways = (0..makers.faults.len()).filter(|&way| makers.faults[way].reason.starts_with(reason));
     let seeds = ways.flat_map(|way| (0..6).map(move |turn| (way + turn * makers.faults.len()) as u64));
     seeds.map(|seed| case(makers, Group::Faults, seed)).collect()
 }
@@ -258,16 +269,27 @@ fn found_alone(mistake: Mistake) -> bool {
 
 /// The stored tables, too, are to find mistakes about who closed a ballot and about openings.
 fn stored_tables_find(options: &Options) {
-    let by_tables = |mistake: &Mistake| !matches!(mistake.about(), About::Words | About::Lengths);
-    let mistakes: Vec<Mistake> = MISTAKES.iter().copied().filter(by_tables).collect();
+    let wanted = |about: About| matches!(about, About::Closed | About::Accepted | About::Refused);
+    find("the stored tables", wanted, || options.boards.iter().all(|folder| check_folder(folder, None).is_ok()));
+}
+
+/// Boards with and without hidden items, too, are to find mistakes about these.
+fn bared_boards_find(boards: &[Bared]) {
+    let passes = || boards.iter().all(|bared| check_bared(&stand_in(), bared).is_ok());
+    find("boards without hidden items", |about| about == About::Hidden, passes);
+}
+
+/// Sees that a check does not pass the stand-in with any of the mistakes that are wanted.
+fn find(by: &str, wanted: fn(About) -> bool, passes: impl Fn() -> bool) {
+    let mistakes: Vec<Mistake> = MISTAKES.iter().copied().filter(|mistake| wanted(mistake.about())).collect();
     for &mistake in &mistakes {
         make_mistake(Some(mistake));
-        if options.boards.iter().all(|folder| check_folder(folder, None).is_ok()) {
-            fail(&format!("the stored tables do not see '{}'", mistake.what()));
+        if passes() {
+            fail(&format!("'{}' is not seen by {by}", mistake.what()));
         }
     }
     make_mistake(None);
-    println!("           {} of them by the stored tables", mistakes.len());
+    println!("           {} of them by {by}", mistakes.len());
 }
 
 /// Counts the cases in which the stand-in's tables break each property.
