@@ -759,7 +759,8 @@ fn opening_on_open(made: &Made, _: u32, random: &mut Random) -> Change {
     })
 }
 
-/// The ballot is cast or open, and a spoil stands under another one that is of this kind to it.
+/// The opened ballot is cast or open. A spoil stands before the opening, under another ballot: `other` says of a
+/// spoil and the opened ballot whether it may be this one.
 fn opening_other_spoiled(made: &Made, random: &mut Random, other: impl Fn(usize, usize) -> bool) -> Change {
     open_some(made, random, |ballot| {
         if closer(made, ballot, SPOIL).is_some() {

@@ -1,4 +1,4 @@
-//! Opened ballots: no one counts, and each was spoiled before it was opened.
+//! Opened ballots: none counts, and each was spoiled before it was opened.
 
 use crate::format::*;
 use crate::told::Told;
