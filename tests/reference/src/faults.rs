@@ -1137,7 +1137,8 @@ fn last_of_voters(made: &Made, from: Vec<usize>) -> Vec<usize> {
     }
     kept
 }
-fn counted(made: &Made, before: usize) -> Vec<usize> {
+/// The counted ballots, were the board to end before a position.
+pub fn counted(made: &Made, before: usize) -> Vec<usize> {
     last_of_voters(made, positions(made, before, CAST)).iter().map(|&i| parent_position(made, i)).collect()
 }
 

@@ -1,5 +1,6 @@
 //! Writes the sample boards: make-samples FOLDER. The same every time.
 
+use reference::faults::counted;
 use reference::format::*;
 use reference::plan::{Laid, Plan};
 use reference::program::{bytes, program};
@@ -47,15 +48,12 @@ fn main() {
     truncated.words.truncate(laid.words.len() * 2 / 3);
     write(folder, "truncated", &truncated);
 
-    // The opened ballot is cast, not spoiled.
-    let opening = first_opening(&made).expect("the election has an opening");
-    let ballot = ballot_of(&made.plan.items, &made.expected.rows, opening);
-    let spoil = made.expected.rows[ballot].closer().expect("the opened ballot is spoiled");
-    let mut plan = made.plan.clone();
-    plan.items[spoil].code = CAST;
-    write(folder, "opening-beside-cast", &plan.lay(sha256));
+    // The opened ballot is cast, not spoiled, and extracted with the others.
+    let opened = first_opened(&made).expect("the election has an opening");
+    write(folder, "opening-beside-cast", &with_cast_for_spoil(&made, &opened).plan.lay(sha256));
 
     // The spoil stands just behind the opening; no time goes backward.
+    let Opened { opening, spoil, .. } = opened;
     let mut plan = made.plan.clone();
     let mut moved = plan.items[spoil].clone();
     let before = &plan.items[..opening];
@@ -65,8 +63,8 @@ fn main() {
     write(folder, "opening-before-spoil", &plan.lay(sha256));
 }
 
-/// An election with counted ballots, a spoiled one that is opened while votes are still cast, a whole hidden
-/// track and an extraction.
+/// An election with counted ballots, a spoiled one that is opened while votes are still cast and would count
+/// if it were cast, a whole hidden track and an extraction.
 fn election() -> Made {
     for seed in 1.. {
         let shape = Shape { items: 48, words: None, long: 0, voters: 5, extraction: true };
@@ -77,17 +75,52 @@ fn election() -> Made {
         let small_weights = made.expected.ballots.iter().all(|row| row[2] < 10 && row[1] < 1000);
         let year_2026 = made.plan.items[0].time > 1_700_000_000_000;
         let whole = [SERVER_OPENING, CONFIRMATION].iter().all(|&code| has(code) > 0);
-        let opened_early = first_opening(&made).is_some_and(|at| made.plan.items[at..].iter().any(|s| s.code == CAST));
-        if whole && opened_early && recast && small_weights && year_2026 && made.expected.ballots.len() >= 3 {
+        let fits = |opened: Opened| is_opened_early(&made, &opened) && would_count(&made, &opened);
+        let opened = first_opened(&made).is_some_and(fits);
+        if whole && opened && recast && small_weights && year_2026 && made.expected.ballots.len() >= 3 {
             return made;
         }
     }
     unreachable!()
 }
 
-/// The position of the first voter opening.
-fn first_opening(made: &Made) -> Option<usize> {
-    made.plan.items.iter().position(|s| s.code == VOTER_OPENING)
+/// The positions of a ballot, its spoil and its voter opening.
+struct Opened {
+    ballot: usize,
+    spoil: usize,
+    opening: usize,
+}
+
+/// The ballot that is opened first.
+fn first_opened(made: &Made) -> Option<Opened> {
+    let opening = made.plan.items.iter().position(|s| s.code == VOTER_OPENING)?;
+    let ballot = ballot_of(&made.plan.items, &made.expected.rows, opening);
+    let spoil = made.expected.rows[ballot].closer().expect("an opened ballot is spoiled");
+    Some(Opened { ballot, spoil, opening })
+}
+
+/// Whether votes are cast after the opening.
+fn is_opened_early(made: &Made, opened: &Opened) -> bool {
+    made.plan.items[opened.opening..].iter().any(|s| s.code == CAST)
+}
+
+/// Whether the ballot would count if it were cast in place of being spoiled.
+fn would_count(made: &Made, opened: &Opened) -> bool {
+    let cast = with_cast_for_spoil(made, opened);
+    counted(&cast, cast.plan.items.len()).contains(&opened.ballot)
+}
+
+/// The election with a cast in the place of the spoil, and the fingerprint of the ballots that then count.
+fn with_cast_for_spoil(made: &Made, opened: &Opened) -> Made {
+    let mut cast = made.clone();
+    cast.plan.items[opened.spoil].code = CAST;
+    // Behind an intent nothing is cast: every extraction has the same ballots.
+    let ballots = counted(&cast, cast.plan.items.len());
+    let message: Vec<u32> = ballots.iter().flat_map(|&b| cast.plan.items[b].content.clone()).collect();
+    for extraction in cast.plan.items.iter_mut().filter(|s| s.code == EXTRACTION) {
+        extraction.content = sha256(&message).to_vec();
+    }
+    cast
 }
 
 fn position(made: &Made, fits: impl Fn(usize) -> bool) -> usize {
