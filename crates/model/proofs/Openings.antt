@@ -116,28 +116,32 @@ module _ {f : Format} {ws vs : List ℕ} {h : History} (p : Passed f ws vs h) wh
   ballot o = trackBallot h (verifier o)
 
   module _ (o : ℕ) (opened : code (itemNo h o) ≡ voterOpeningType) where
+    -- each is earlier than the one below it
+    record Track : Type 0 where
+      isVerifier : code (itemNo h (verifier o)) ≡ verifierType
+      isStart : code (itemNo h (start o)) ≡ trackType
+      isBallot : code (itemNo h (ballot o)) ≡ ballotType
+      verifierEarlier : verifier o < o
+      startEarlier : start o < verifier o
+
+    track : Track
+    unfolding parentType table
+    track =
+        let (a, l) = above voterOpeningType verifierType o (omega arith) tt opened in
+        let (b, m) = above verifierType trackType (verifier o) (omega arith) tt a in
+        let (c, _) = above trackType ballotType (start o) (omega arith) tt b in
+        record { isVerifier = a; isStart = b; isBallot = c; verifierEarlier = l; startEarlier = m }
+
     pub track-types : (code (itemNo h (verifier o)) ≡ verifierType) × (code (itemNo h (start o)) ≡ trackType)
         × (code (itemNo h (ballot o)) ≡ ballotType)
-    unfolding parentType table
-    track-types =
-        let (a, _) = above voterOpeningType verifierType o (omega arith) tt opened in
-        let (b, _) = above verifierType trackType (verifier o) (omega arith) tt a in
-        (a, b, above trackType ballotType (start o) (omega arith) tt b .0)
-
-    -- each is earlier than the one below it
-    track-rises : (verifier o < o) × (start o < verifier o)
-    unfolding parentType table
-    track-rises = (
-      above voterOpeningType verifierType o (omega arith) tt opened .1,
-      above verifierType trackType (verifier o) (omega arith) tt (track-types .0) .1,
-    )
+    track-types = (track .isVerifier, track .isStart, track .isBallot)
 
   -- after the items before it, the ballot is the same
   same-ballot : (o : ℕ) → o < length h → code (itemNo h (suc o)) ≡ voterOpeningType
       → let g = take o h in trackBallot g (parentNumber g (itemNo h (suc o))) ≡ ballot (suc o)
   same-ballot o l c =
       let g = take o h in
-      let (up, higher) = track-rises (suc o) c in
+      let t = track (suc o) c in
       ap (trackBallot g) (sym (parent-of (made-at p o l)))
       ∙ ap (λ (e : Entry). entry g (e .parent) .parent) (entry-take h o (verifier (suc o)) (omega arith) (omega arith))
       ∙ ap (λ (e : Entry). e .parent) (entry-take h o (start (suc o)) (omega arith) (omega arith))
@@ -169,7 +173,7 @@ module _ {f : Format} {ws vs : List ℕ} {h : History} (p : Passed f ws vs h) wh
       every-map _ _
       (λ x (c, a) o opened q.
       opened-uncast o c opened (a .cast)
-      (sym (one-ballot (ballot o) (entry h c .parent) (track-types o opened .2) (a .ballot) (q ∙ ap (λ (y : Vote). y .ballot) (a .vote)))))
+      (sym (one-ballot (ballot o) (entry h c .parent) (track o opened .isBallot) (a .ballot) (q ∙ ap (λ (y : Vote). y .ballot) (a .vote)))))
       (counted h) (counted-casts h p)
 
   -- ---- for the code: whether a ballot was spoiled is told by what closed it
