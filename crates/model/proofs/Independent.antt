@@ -128,7 +128,7 @@ module _ {f : Format} {h : History} (o : Orderly f h) where
   -- ---- the rules, for a main item
 
   module _ (i : Item) (l : Listed f (i .head)) (t : T (isMain i)) where
-    -- a rule says the same after the main items alone. Of the other rules nothing is asked, so this goes both ways
+    -- a rule says the same after the main items alone. The item need not meet any other rule
     abbrev Same : (History → Item → Bool) → Type 0
     Same rule = rule h i ≡ rule (mains h) (unsigned i)
 

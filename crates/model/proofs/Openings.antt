@@ -116,7 +116,7 @@ module _ {f : Format} {ws vs : List ℕ} {h : History} (p : Passed f ws vs h) wh
   ballot o = trackBallot h (verifier o)
 
   module _ (o : ℕ) (opened : code (itemNo h o) ≡ voterOpeningType) where
-    -- each is earlier than the one below it
+    -- the verifier and the start are each earlier than the one below
     record Track : Type 0 where
       isVerifier : code (itemNo h (verifier o)) ≡ verifierType
       isStart : code (itemNo h (start o)) ≡ trackType

@@ -1,4 +1,4 @@
--- Check 11 by the tests that the code makes. Assumes nothing.
+-- Check 11, but for its last sentence (`Opened`), by the tests that the code makes. Assumes nothing.
 use Prim.Native.Nat.{ℕ}
 use native.Mathlib.Omega.{arith}
 use mathlib.Core.Path.{_≡_, sym, ap, _∙_}

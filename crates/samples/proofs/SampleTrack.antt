@@ -36,7 +36,8 @@ spoil = item 0x10150000 [] 9 9
 abbrev opened : ℕ → Item
 opened = item 0x20320001 (0 ∷ []) 11 11
 
--- an opening beside a cast is out of phase, and so is one before its spoil. After its spoil it passes, its time the earlier one, too
+-- an opening beside a cast is out of phase, and so is one before its spoil. After its spoil it passes, also with an earlier time than
+-- the spoil's
 pub track-answers : (checked (cast 12) (opened 13) ≡ refused 11 12) × (checked (opened 12) (spoil 13) ≡ refused 11 11)
     × (items-in (checked (spoil 12) (opened 13)) ≡ 13) × (items-in (checked (spoil 13) (opened 12)) ≡ 13)
 unfolding election wordsIn verdictsIn wordsOf hashed if_then_else_ _⇒_ part any count keep latest onesIn kindOf codeOf countOf sameWords pair lowZero member everyBelow allIn itemLength itemAt rowOf rowIn table fits entry firstFrom lastFrom mainItem endAfter endAddress parentNumber sessionNumber entryOf placeOf history voteOf counted contents addressOk previousOk parentOk timeOk rounds isOpen extractionOk openOk standingOk latestOk intentOk spoiledOk phaseOk onBoardOk underParentOk underBallotOk onlyOk contestsOk mayVote cryptogramsOk contestOk thresholdOk authorizerOk roundOk sessionOk commitmentOk ballotOk fingerprintOk trusteesOk contentOk opening keyOf verdictOk keyOk signatureOk firstUnmet checks faultIn closing judged wordAt items audit items-in

@@ -21,7 +21,8 @@ use Rattle.model.proofs.Tests.{by-test, passes, facts}
 use Rattle.model.proofs.Lists.{Every}
 use Rattle.model.proofs.Rules.{content-rules}
 use Rattle.model.proofs.Below.{allIn-ext}
-use Rattle.state.specs.Standing.{enabledSet, withContest, definedFrom, definedSet}
+use Rattle.state.specs.After.{contestsAfter}
+use Rattle.state.specs.Standing.{enabledSet, definedFrom, definedSet}
 use Rattle.state.proofs.Sets.{member-zero, member-one, member-or, member-and, allIn-member, size-zero}
 use Rattle.state.proofs.Rounds.{RoundSmall, WordsSmall, member-enabled, enabledSet-small, passed-each}
 
@@ -31,20 +32,20 @@ pub definedSet-none : definedSet [] ≡ 0
 unfolding definedSet definedFrom
 definedSet-none = refl
 
-from-snoc : (s : ℕ) (es : List Entry) (e : Entry) → definedFrom s (es ++ (e ∷ [])) ≡ withContest (definedFrom s es) e
+from-snoc : (s : ℕ) (es : List Entry) (e : Entry) → definedFrom s (es ++ (e ∷ [])) ≡ contestsAfter (definedFrom s es) (e .item)
 unfolding definedFrom
 from-snoc s [] e = refl
-from-snoc s (x ∷ es) e = from-snoc (withContest s x) es e
+from-snoc s (x ∷ es) e = from-snoc (contestsAfter s (x .item)) es e
 
 pub definedSet-snoc : (h : History) (e : Entry)
     → definedSet (h ++ (e ∷ [])) ≡ (if typed contestType e then bitOr (definedSet h) (2 ^ word 0 (e .item)) else definedSet h)
-unfolding definedSet withContest
+unfolding definedSet contestsAfter
 definedSet-snoc h e = from-snoc 0 h e
 
 -- ---- its members
 
-member-with : (s j : ℕ) (e : Entry) → member (withContest s e) j ≡ (member s j || defines j e)
-unfolding withContest if_then_else_
+member-with : (s j : ℕ) (e : Entry) → member (contestsAfter s (e .item)) j ≡ (member s j || defines j e)
+unfolding contestsAfter if_then_else_
 member-with s j e =
     by-test (typed contestType e)
     (λ q. rw (q, member-or s (2 ^ word 0 (e .item)) j, member-one (word 0 (e .item)) j))
@@ -53,7 +54,7 @@ member-with s j e =
 member-from : (s j : ℕ) (es : List Entry) → member (definedFrom s es) j ≡ (member s j || any (defines j) es)
 unfolding any definedFrom
 member-from s j [] = sym (or-false (member s j))
-member-from s j (e ∷ es) = member-from (withContest s e) j es ∙ rw (member-with s j e, or-assoc)
+member-from s j (e ∷ es) = member-from (contestsAfter s (e .item)) j es ∙ rw (member-with s j e, or-assoc)
 
 pub member-defined : (h : History) (j : ℕ) → member (definedSet h) j ≡ any (defines j) h
 unfolding definedSet
@@ -65,8 +66,8 @@ member-defined h j = member-from 0 j h ∙ rw (member-zero j)
 abbrev pub ContestSmall : Entry → Type 0
 ContestSmall e = T (typed contestType e) → word 0 (e .item) ≤ 31
 
-with-small : (s : ℕ) (e : Entry) → s < 2 ^ 32 → ContestSmall e → withContest s e < 2 ^ 32
-unfolding withContest if_then_else_
+with-small : (s : ℕ) (e : Entry) → s < 2 ^ 32 → ContestSmall e → contestsAfter s (e .item) < 2 ^ 32
+unfolding contestsAfter if_then_else_
 with-small s e l c =
     by-test (typed contestType e)
     (λ q. rw q (or-lt 32 s (2 ^ word 0 (e .item)) l (pow-lt {j = 32} (suc-le-suc (c (passes q))))))
@@ -75,7 +76,7 @@ with-small s e l c =
 from-small : (s : ℕ) (es : List Entry) → s < 2 ^ 32 → Every ContestSmall es → definedFrom s es < 2 ^ 32
 unfolding definedFrom
 from-small s [] l all = l
-from-small s (e ∷ es) l all = from-small (withContest s e) es (with-small s e l (all .0)) (all .1)
+from-small s (e ∷ es) l all = from-small (contestsAfter s (e .item)) es (with-small s e l (all .0)) (all .1)
 
 pub definedSet-small : (h : History) → Every ContestSmall h → definedSet h < 2 ^ 32
 unfolding definedSet

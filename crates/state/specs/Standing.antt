@@ -1,16 +1,16 @@
--- What a running audit keeps of the items so far, in place of searching for it: the round in force under each number, the contests that the
--- open rounds enable, and the contests that are defined, as sets. The code's state is said to be these; the laws that the rules can be tested
--- by them are in proofs/. Paper: "Phases", "Content". Assumes nothing.
-use Prim.Native.Nat.{ℕ, zero, suc, _^_}
+-- What a running audit keeps of the items so far, in place of searching for it: the round in force under each number, and the contests that
+-- are defined, as a set; `Stands` says that the state is these. And what follows from the rounds: the contests that those open at a time
+-- enable. The laws that the rules can be tested by them are in proofs/. Paper: "Phases", "Content". Assumes nothing.
+use Prim.Native.Nat.{ℕ, zero, suc}
 use mathlib.Core.Bool.{Bool, false, not, _&&_, _||_}
 use mathlib.Core.List.{List, [], _∷_}
 use lib.Bits.{bitOr}
 use lib.Dec.{eqb}
 use Rattle.model.specs.Lists.{if_then_else_}
-use Rattle.model.specs.Codes.{contestType, roundType}
-use Rattle.model.specs.Item.{word}
+use Rattle.model.specs.Codes.{roundType}
 use Rattle.model.specs.History.{History, Entry, itemNo, last, typed}
 use Rattle.model.specs.Phase.{roundNumber, roundContests, isOpen}
+use Rattle.state.specs.After.{contestsAfter}
 
 -- ---- numbers below n: whether any passes a test, and the union of their sets
 
@@ -49,15 +49,10 @@ enabledSet t h = unionBelow slots (openContests t h)
 
 -- ---- contests
 
--- the set s with the contest that an entry defines
-unfoldable pub withContest : ℕ → Entry → ℕ
-unfolding if_then_else_
-withContest s e = if typed contestType e then bitOr s (2 ^ word 0 (e .item)) else s
-
 -- the set s with the contests that some entries define
 unfoldable pub definedFrom : ℕ → List Entry → ℕ
 definedFrom s [] = s
-definedFrom s (e ∷ es) = definedFrom (withContest s e) es
+definedFrom s (e ∷ es) = definedFrom (contestsAfter s (e .item)) es
 
 -- the contests that a type 3 defined
 unfoldable pub definedSet : History → ℕ

@@ -21,7 +21,7 @@ use Rattle.format.specs.declared.table.Listing.the-variants.{Listed}
 use Rattle.index.specs.Kept.{before, itemAfter, Kept}
 use Rattle.index.specs.Known.{knownOf}
 use Rattle.index.specs.declared.Known.{Known}
-use Rattle.state.specs.Standing.{roundAt, definedSet}
+use Rattle.state.specs.Standing.{roundAt, slots, definedSet}
 use Rattle.state.specs.declared.State.{State}
 
 -- the state after the first s .items items of the board
@@ -34,7 +34,7 @@ pub record Stands (board : List ℕ) (s : State) : Type 0 where
   pub authorizer : s .authorizer ≡ history.last (typed authorizerType) (before board (s .items))
   pub intent : s .intent ≡ first (typed intentType) (before board (s .items))
   pub contests : s .contests ≡ definedSet (before board (s .items))
-  pub rounds : (j : ℕ) → j < 16 → getD (s .rounds) j 0 ≡ roundAt (before board (s .items)) j
+  pub rounds : (j : ℕ) → j < slots → getD (s .rounds) j 0 ≡ roundAt (before board (s .items)) j
   pub ballots : s .ballots ≡ length (counted (before board (s .items)))
 
 -- what the code is to know of the item after them: its parts, its parent and its session

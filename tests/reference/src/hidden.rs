@@ -46,8 +46,9 @@ fn closed_mains(words: &[u32], index: &[u32], items: usize) -> Vec<u32> {
         .collect()
 }
 
-/// Other hidden tracks and signatures never change what is reported of the main list.
-pub fn check_hidden_tracks(seed: u64) -> Result<(), String> {
+/// Fewer hidden items never change what is reported of the main list. Tells whether the board had any that
+/// went.
+pub fn check_hidden_tracks(seed: u64) -> Result<bool, String> {
     let random = &mut Random::new(seed);
     let shape = any_shape(random, 150);
     let made = make(random, sha256, shape);
@@ -65,7 +66,7 @@ pub fn check_hidden_tracks(seed: u64) -> Result<(), String> {
     if with.0 != 0 || with != without {
         return Err(format!("hidden tracks, seed {seed}: the main list's report changes with them"));
     }
-    Ok(())
+    Ok(plan.items.len() < made.plan.items.len())
 }
 
 // ---- boards refused at a main item ----

@@ -179,12 +179,17 @@ fn collision_boards() {
 }
 
 fn hidden_tracks() {
-    for seed in 0..300 {
-        if let Err(message) = check_hidden_tracks(seed) {
-            fail(&message);
+    let mut boards = 0;
+    for seed in 0..500 {
+        match check_hidden_tracks(seed) {
+            Ok(fewer) => boards += usize::from(fewer),
+            Err(message) => fail(&message),
         }
     }
-    println!("tracks     300 boards report the same main list with other hidden tracks");
+    if boards < 300 {
+        fail(&format!("only {boards} boards have hidden items that go"));
+    }
+    println!("tracks     {boards} boards report the same main list with fewer hidden items");
 }
 
 /// Holds the reference, and the library where it is linked, to boards that are refused at a main item. Gives
