@@ -22,12 +22,11 @@ use Rattle.model.specs.Keys.{keyOf, goodVerdict}
 use Rattle.model.specs.Audit.{checks}
 use Rattle.model.specs.Alone.{mainList, replay, MainBoard}
 use Rattle.model.specs.Sound.{Meets, Passed, none, next, Sound}
-use Rattle.model.proofs.Tests.{by-test, passes, is-true, is-false, and-iff}
+use Rattle.model.proofs.Tests.{by-test, passes, is-true, is-false, and-iff, allIn-ext}
 use Rattle.model.proofs.Lists.{Every, every, every-map, count-few, count-keep, keep-keep, any-kept, any-of-map, map-keep, latest-map}
 use Rattle.model.proofs.Numbers.{OnlyMain, MainAt, same-number, first-main, first-at, last-found, last-number}
 use Rattle.model.proofs.State.{any-last, mainItems-snoc}
 use Rattle.model.proofs.Table.{main-low, asksNone, genesis-law}
-use Rattle.model.proofs.Below.{allIn-ext}
 use Rattle.model.proofs.Entries.{parent-at, Opens, Orderly, each-fine, low-main, typed-only, own-session-at, orderly}
 use Rattle.model.proofs.Alone.{view, mains, bare, look, parent-same, session-same, counted-mains, same-voter, same-key, replay-mains, item-unsigned, end-alone}
 

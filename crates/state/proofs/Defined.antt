@@ -17,10 +17,9 @@ use Rattle.model.specs.Item.{Item, code, time, word}
 use Rattle.model.specs.History.{History, Entry, entryOf, itemNo, typed, sessionNumber, sessionContests}
 use Rattle.model.specs.Content.{defines, contestsOk, mayVote, contestOk}
 use Rattle.model.specs.Sound.{Passed}
-use Rattle.model.proofs.Tests.{by-test, passes, facts}
+use Rattle.model.proofs.Tests.{by-test, passes, facts, allIn-ext}
 use Rattle.model.proofs.Lists.{Every}
 use Rattle.model.proofs.Rules.{content-rules}
-use Rattle.model.proofs.Below.{allIn-ext}
 use Rattle.state.specs.After.{contestsAfter}
 use Rattle.state.specs.Standing.{enabledSet, definedFrom, definedSet}
 use Rattle.state.proofs.Sets.{member-zero, member-one, member-or, member-and, allIn-member, size-zero}

@@ -13,8 +13,7 @@ use lib.Pow.{pow-lt, shr-shr}
 use borrow.Author.Tests.{eqb-true, eqb-false, eq-eqb, ne-eqb, lt-ltb}
 use Rattle.model.specs.Lists.{_⇒_}
 use Rattle.model.specs.Words.{member, size, everyBelow, allIn}
-use Rattle.model.proofs.Tests.{by-test}
-use Rattle.model.proofs.Below.{everyBelow-ext}
+use Rattle.model.proofs.Tests.{by-test, everyBelow-ext}
 
 -- ---- the digits of a word
 
