@@ -31,9 +31,19 @@ extern "C" {
 #define TIRFOLMA_BALLOT_ROW_WORDS 3
 #define TIRFOLMA_BALLOT_WORDS (TIRFOLMA_BALLOT_ROW_WORDS * 408)
 
+/* Words of a roll: a pair for each voter, with rising voter numbers, and no roll has more than 2048 of them. */
+#define TIRFOLMA_ROLL_ROW_WORDS 2
+#define TIRFOLMA_ROLL_WORDS (TIRFOLMA_ROLL_ROW_WORDS * 2048)
+
+/* Where the words of a pair of the roll stand. */
+enum {
+    TIRFOLMA_ROLL_VOTER = 0,
+    TIRFOLMA_ROLL_WEIGHT = 1
+};
+
 /* Where the answer's words stand. */
 enum {
-    TIRFOLMA_NUMBER = 0,      /* 0: accepted; 1 to 16, or 18: the refusal */
+    TIRFOLMA_NUMBER = 0,      /* 0: accepted; 1 to 16, 18, 20 or 21: the refusal */
     TIRFOLMA_ITEMS = 1,       /* items; of a refusal, those that passed */
     TIRFOLMA_MAINS = 2,       /* main items */
     TIRFOLMA_BALLOTS = 3,     /* counted ballots */
@@ -62,7 +72,8 @@ enum {
     TIRFOLMA_COUNTED_WEIGHT = 2
 };
 
-/* Audits a board with its verdict words.
+/* Audits a board with its verdict words and the roll of its voters. An odd number of roll words, more than 4096 of them, or voter numbers
+   that do not rise are refused by 20; a session whose voter is not on the roll with the session's weight by 21. An empty roll has no voters.
 
    True: the first 14 words of the answer are as above, of a refusal too (words 2 to 13 are then 0), and the words behind them are as they
    were. The tables:
@@ -78,6 +89,7 @@ enum {
 bool tirfolma_audit(
     const uint32_t *board, size_t board_words,
     const uint32_t *verdicts, size_t verdict_words,
+    const uint32_t *roll, size_t roll_words,
     uint32_t *index, size_t index_words,
     uint32_t *ballots, size_t ballot_words,
     uint32_t *answer, size_t answer_words);
@@ -90,7 +102,7 @@ bool tirfolma_audit(
 enum {
     TIRFOLMA_KIND = 0,           /* one of the kinds below */
     TIRFOLMA_BOARD = 1,          /* of a refusal: 0 for the kept board, 1 for the later one */
-    TIRFOLMA_COMPARE_NUMBER = 2, /* of a refusal: 1 to 16, 18 or 19 */
+    TIRFOLMA_COMPARE_NUMBER = 2, /* of a refusal: 1 to 16, or 18 to 21 */
     TIRFOLMA_COMPARE_ITEMS = 3,  /* of a refusal: the items that passed */
     TIRFOLMA_KEPT_MAIN = 4,      /* of a collision: the main number in the kept board */
     TIRFOLMA_LATER_MAIN = 5      /* and in the later one */
@@ -103,7 +115,7 @@ enum {
     TIRFOLMA_COLLISION = 3 /* two items with one address and different hashed words */
 };
 
-/* Audits a kept board, then a later one, each with its own tables, and compares all main items of the kept board with those of the later one
+/* Audits a kept board, then a later one, each with its own roll and its own tables, and compares all main items of the kept board with those of the later one
    up to a main number of the later one. A number that the later board does not have is refusal 19, of the later board.
 
    True: the first 6 words of the answer are as above, and the words behind them are as they were. Each board's tables are as tirfolma_audit
@@ -114,8 +126,10 @@ enum {
 bool tirfolma_compare(
     const uint32_t *kept, size_t kept_words,
     const uint32_t *kept_verdicts, size_t kept_verdict_words,
+    const uint32_t *kept_roll, size_t kept_roll_words,
     const uint32_t *later, size_t later_words,
     const uint32_t *later_verdicts, size_t later_verdict_words,
+    const uint32_t *later_roll, size_t later_roll_words,
     size_t main_number,
     uint32_t *kept_index, size_t kept_index_words,
     uint32_t *kept_ballots, size_t kept_ballot_words,
@@ -130,7 +144,7 @@ bool tirfolma_compare(
 
 /* Where the answer's words stand. */
 enum {
-    TIRFOLMA_ANCESTRY_NUMBER = 0, /* 0: listed; 1 to 16, 18 or 19: the refusal */
+    TIRFOLMA_ANCESTRY_NUMBER = 0, /* 0: listed; 1 to 16, or 18 to 21: the refusal */
     TIRFOLMA_ANCESTRY_COUNT = 1   /* how many numbers were written; of a refusal, the items that passed */
 };
 
@@ -146,6 +160,7 @@ enum {
 bool tirfolma_ancestry(
     const uint32_t *board, size_t board_words,
     const uint32_t *verdicts, size_t verdict_words,
+    const uint32_t *roll, size_t roll_words,
     size_t item_number,
     uint32_t *index, size_t index_words,
     uint32_t *ballots, size_t ballot_words,
