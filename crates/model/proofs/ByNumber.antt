@@ -5,31 +5,36 @@ use native.Mathlib.Omega.{arith}
 use mathlib.Core.Path.{_≡_, refl}
 use mathlib.Core.Logic.{_≢_, _↔_, _⊎_, inl, inr, ⊎-elim}
 use mathlib.Core.List.{List, [], _∷_}
-use Rattle.model.specs.Refusal.{emptyBoard, truncated, badClosing}
+use Rattle.model.specs.Refusal.{emptyBoard, truncated, badClosing, badRoll}
 use Rattle.model.specs.Format.{Format}
+use Rattle.model.specs.Roll.{onRoll}
 use Rattle.model.specs.Audit.{Outcome, unread, refused, audit}
-use Rattle.model.specs.Reasons.{FirstOf, numbersOf, startReasons, EndsAt, ClosesAt, HeadAt, itemReasons, closingReasons, Reached, Answers, atStart, atEmpty, atEnd, atItem, atClosing}
+use Rattle.model.specs.Reasons.{FirstOf, numbersOf, startReasons, EndsAt, ClosesAt, HeadAt, itemReasons, closingReasons, Reached, Answers, atStart, atRoll, atEmpty, atEnd, atItem, atClosing}
 use Rattle.model.proofs.FirstReason.{every-first}
 use Rattle.model.proofs.Reasons.{answers}
 
-module _ (f : Format) (ws vs : List ℕ) (index ballots : ℕ) where
+module _ (f : Format) (ws vs roll : List ℕ) (index ballots : ℕ) where
   abbrev Answer : Outcome → Type 0
-  Answer = Answers f ws vs index ballots
+  Answer = Answers f ws vs roll index ballots
 
   abbrev Reaching : ℕ → Type 0
-  Reaching = Reached f ws vs index ballots
+  Reaching = Reached f ws vs roll index ballots
 
   -- the numbers of the reasons, in their order
-  pub numbers-in-order : (k : ℕ) → (numbersOf (startReasons ws index ballots) ≡ 1 ∷ 2 ∷ 3 ∷ [])
-      × (numbersOf (itemReasons f ws vs k) ≡ 1 ∷ 5 ∷ 6 ∷ 4 ∷ 7 ∷ 8 ∷ 9 ∷ 10 ∷ 11 ∷ 12 ∷ 13 ∷ 14 ∷ 15 ∷ 16 ∷ [])
+  pub numbers-in-order : (k : ℕ) → (numbersOf (startReasons ws roll index ballots) ≡ 1 ∷ 2 ∷ 20 ∷ 3 ∷ [])
+      × (numbersOf (itemReasons f (onRoll roll) ws vs k) ≡ 1 ∷ 5 ∷ 6 ∷ 4 ∷ 7 ∷ 8 ∷ 9 ∷ 10 ∷ 11 ∷ 12 ∷ 13 ∷ 21 ∷ 14 ∷ 15 ∷ 16 ∷ [])
       × (numbersOf (closingReasons f ws vs k) ≡ 18 ∷ [])
   unfolding startReasons itemReasons closingReasons
   numbers-in-order k = (refl, refl, refl)
 
   -- what is known of them
-  item-numbers : (n k : ℕ) → FirstOf (itemReasons f ws vs k) n → (n ≢ emptyBoard) × (n ≢ badClosing)
+  item-numbers : (n k : ℕ) → FirstOf (itemReasons f (onRoll roll) ws vs k) n → (n ≢ emptyBoard) × (n ≢ badClosing)
   unfolding itemReasons
   item-numbers n k s = every-first (λ n. (n ≢ emptyBoard) × (n ≢ badClosing)) (omega arith) s
+
+  item-roll : (n k : ℕ) → FirstOf (itemReasons f (onRoll roll) ws vs k) n → n ≢ badRoll
+  unfolding itemReasons
+  item-roll n k s = every-first (λ n. n ≢ badRoll) (omega arith) s
 
   closing-numbers : (n k : ℕ) → FirstOf (closingReasons f ws vs k) n → n ≡ badClosing
   unfolding closingReasons
@@ -37,30 +42,41 @@ module _ (f : Format) (ws vs : List ℕ) (index ballots : ℕ) where
 
   -- ---- from an answer to its reason
 
-  unread-of : {n : ℕ} → Answer (unread n) → FirstOf (startReasons ws index ballots) n × (n ≢ emptyBoard)
-  unread-of (atStart n s other) = (s, other)
+  unread-of : {n : ℕ} → Answer (unread n) → FirstOf (startReasons ws roll index ballots) n × (n ≢ badRoll) × (n ≢ emptyBoard)
+  unread-of (atStart n s bad other) = (s, bad, other)
 
-  empty-of : {n k : ℕ} → Answer (refused n k) → n ≡ emptyBoard → FirstOf (startReasons ws index ballots) emptyBoard × (k ≡ 0)
+  roll-of : {n k : ℕ} → Answer (refused n k) → n ≡ badRoll → FirstOf (startReasons ws roll index ballots) badRoll × (k ≡ 0)
+  roll-of (atRoll s) q = (s, refl)
+  roll-of (atEmpty s) q = absurd (omega arith)
+  roll-of (atEnd k r end) q = absurd (omega arith)
+  roll-of (atItem n k r head s) q = absurd (item-roll n k s q)
+  roll-of (atClosing n k r last s) q = absurd (omega (arith, closing-numbers n k s))
+
+  empty-of : {n k : ℕ} → Answer (refused n k) → n ≡ emptyBoard → FirstOf (startReasons ws roll index ballots) emptyBoard × (k ≡ 0)
+  empty-of (atRoll s) q = absurd (omega arith)
   empty-of (atEmpty s) q = (s, refl)
   empty-of (atEnd k r end) q = absurd (omega arith)
   empty-of (atItem n k r head s) q = absurd (item-numbers n k s .0 q)
   empty-of (atClosing n k r last s) q = absurd (omega (arith, closing-numbers n k s))
 
   truncated-of : {n k : ℕ} → Answer (refused n k) → n ≡ truncated
-      → Reaching k × (EndsAt f ws k ⊎ (HeadAt f ws k × FirstOf (itemReasons f ws vs k) truncated))
+      → Reaching k × (EndsAt f ws k ⊎ (HeadAt f ws k × FirstOf (itemReasons f (onRoll roll) ws vs k) truncated))
+  truncated-of (atRoll s) q = absurd (omega arith)
   truncated-of (atEmpty s) q = absurd (omega arith)
   truncated-of (atEnd k r end) q = (r, inl end)
   truncated-of (atItem n k r head s) q = (r, inr (head, rw q at s))
   truncated-of (atClosing n k r last s) q = absurd (omega (arith, closing-numbers n k s))
 
-  item-of : {n k : ℕ} → Answer (refused n k) → n ≢ emptyBoard → n ≢ truncated → n ≢ badClosing
-      → Reaching k × HeadAt f ws k × FirstOf (itemReasons f ws vs k) n
-  item-of (atEmpty s) blank whole early = absurd (blank refl)
-  item-of (atEnd k r end) blank whole early = absurd (whole refl)
-  item-of (atItem n k r head s) blank whole early = (r, head, s)
-  item-of (atClosing n k r last s) blank whole early = absurd (early (closing-numbers n k s))
+  item-of : {n k : ℕ} → Answer (refused n k) → n ≢ badRoll → n ≢ emptyBoard → n ≢ truncated → n ≢ badClosing
+      → Reaching k × HeadAt f ws k × FirstOf (itemReasons f (onRoll roll) ws vs k) n
+  item-of (atRoll s) good blank whole early = absurd (good refl)
+  item-of (atEmpty s) good blank whole early = absurd (blank refl)
+  item-of (atEnd k r end) good blank whole early = absurd (whole refl)
+  item-of (atItem n k r head s) good blank whole early = (r, head, s)
+  item-of (atClosing n k r last s) good blank whole early = absurd (early (closing-numbers n k s))
 
   closing-of : {n k : ℕ} → Answer (refused n k) → n ≡ badClosing → Reaching k × ClosesAt f ws k × FirstOf (closingReasons f ws vs k) badClosing
+  closing-of (atRoll s) q = absurd (omega arith)
   closing-of (atEmpty s) q = absurd (omega arith)
   closing-of (atEnd k r end) q = absurd (omega arith)
   closing-of (atItem n k r head s) q = absurd (item-numbers n k s .1 q)
@@ -69,31 +85,35 @@ module _ (f : Format) (ws vs : List ℕ) (index ballots : ℕ) where
   -- ---- which number is given when
 
   abbrev outcome : Outcome
-  outcome = audit f ws vs index ballots
+  outcome = audit f ws vs roll index ballots
 
   told : (o : Outcome) → (outcome ≡ o) ↔ Answer o
-  told = answers f ws vs index ballots
+  told = answers f ws vs roll index ballots
 
   -- 1's word limit, and 2
-  pub unread-reason : (n : ℕ) → (outcome ≡ unread n) ↔ (FirstOf (startReasons ws index ballots) n × (n ≢ emptyBoard))
-  unread-reason n = (λ e. unread-of (told _ .0 e), λ (s, other). told _ .1 (atStart n s other))
+  pub unread-reason : (n : ℕ) → (outcome ≡ unread n) ↔ (FirstOf (startReasons ws roll index ballots) n × (n ≢ badRoll) × (n ≢ emptyBoard))
+  unread-reason n = (λ e. unread-of (told _ .0 e), λ (s, bad, other). told _ .1 (atStart n s bad other))
+
+  -- 20
+  pub roll-reason : (k : ℕ) → (outcome ≡ refused badRoll k) ↔ (FirstOf (startReasons ws roll index ballots) badRoll × (k ≡ 0))
+  roll-reason k = (λ e. roll-of (told _ .0 e) refl, λ (s, none). rw none (told _ .1 (atRoll s)))
 
   -- 3
-  pub empty-reason : (k : ℕ) → (outcome ≡ refused emptyBoard k) ↔ (FirstOf (startReasons ws index ballots) emptyBoard × (k ≡ 0))
+  pub empty-reason : (k : ℕ) → (outcome ≡ refused emptyBoard k) ↔ (FirstOf (startReasons ws roll index ballots) emptyBoard × (k ≡ 0))
   empty-reason k = (λ e. empty-of (told _ .0 e) refl, λ (s, none). rw none (told _ .1 (atEmpty s)))
 
   -- 4: there is no word behind the first k items, or item k + 1 runs past the end
   pub truncated-reason : (k : ℕ) → (outcome ≡ refused truncated k)
-      ↔ (Reaching k × (EndsAt f ws k ⊎ (HeadAt f ws k × FirstOf (itemReasons f ws vs k) truncated)))
+      ↔ (Reaching k × (EndsAt f ws k ⊎ (HeadAt f ws k × FirstOf (itemReasons f (onRoll roll) ws vs k) truncated)))
   truncated-reason k = (
     λ e. truncated-of (told _ .0 e) refl,
     λ (r, why). told _ .1 (⊎-elim (atEnd k r) (λ (head, s). atItem truncated k r head s) why),
   )
 
-  -- 1's item limit, 5, 6, and 7 to 16
-  pub item-reason : (n k : ℕ) → n ≢ emptyBoard → n ≢ truncated → n ≢ badClosing
-      → (outcome ≡ refused n k) ↔ (Reaching k × HeadAt f ws k × FirstOf (itemReasons f ws vs k) n)
-  item-reason n k blank whole early = (λ e. item-of (told _ .0 e) blank whole early, λ (r, head, s). told _ .1 (atItem n k r head s))
+  -- 1's item limit, 5, 6, 7 to 16, and 21
+  pub item-reason : (n k : ℕ) → n ≢ badRoll → n ≢ emptyBoard → n ≢ truncated → n ≢ badClosing
+      → (outcome ≡ refused n k) ↔ (Reaching k × HeadAt f ws k × FirstOf (itemReasons f (onRoll roll) ws vs k) n)
+  item-reason n k good blank whole early = (λ e. item-of (told _ .0 e) good blank whole early, λ (r, head, s). told _ .1 (atItem n k r head s))
 
   -- 18
   pub closing-reason : (k : ℕ) → (outcome ≡ refused badClosing k) ↔ (Reaching k × ClosesAt f ws k × FirstOf (closingReasons f ws vs k) badClosing)

@@ -18,6 +18,7 @@ use Rattle.model.specs.Item.{Item, code}
 use Rattle.model.specs.Types.{table}
 use Rattle.model.specs.History.{History, Entry, entry, itemNo, typed, first, parentNumber, entryOf, childOf, castOrSpoil, closer}
 use Rattle.model.specs.Only.{underBallotOk}
+use Rattle.model.specs.Roll.{Eligibility}
 use Rattle.model.specs.Sound.{Meets, Passed}
 use Rattle.model.proofs.Tests.{by-test, is-true, is-false, and-iff, implies-iff, not-iff}
 use Rattle.model.proofs.Rules.{only-rules}
@@ -73,7 +74,7 @@ closers-differ h j k n e =
 
 -- ---- of a passed history
 
-module _ {f : Format} {ws vs : List ℕ} {h : History} (b : Passed f ws vs h) where
+module _ {f : Format} {on : Eligibility} {ws vs : List ℕ} {h : History} (b : Passed f on ws vs h) where
   -- a cast or spoil stands under a ballot
   under-ballot : (k c : ℕ) → 1 ≤ c → c ≤ length h → T (closes k (entry h c)) → T (typed ballotType (entry h k))
   unfolding parentType table
@@ -145,7 +146,7 @@ closer-stays h (e ∷ t) k l n =
 
 -- ---- one more item, which passes
 
-module _ {f : Format} {ws vs : List ℕ} {h : History} {v : List ℕ} {i : Item} (b : Passed f ws vs h) (m : Meets f h v i) (place : ℕ) where
+module _ {f : Format} {on : Eligibility} {ws vs : List ℕ} {h : History} {v : List ℕ} {i : Item} (b : Passed f on ws vs h) (m : Meets f on h v i) (place : ℕ) where
   abbrev new : Entry
   new = entryOf h place i
 

@@ -26,7 +26,7 @@ use Rattle.model.proofs.Report.{tables-keep, Numbered, audit-numbered}
 
 -- ---- two accepted boards, and a main number of the later one
 
-module _ {f : Format} {kb kv lb lv : List ℕ} {g h : History} (kept : Sound f kb kv g) (later : Sound f lb lv h)
+module _ {f : Format} {kb kv kr lb lv lr : List ℕ} {g h : History} (kept : Sound f kb kv kr g) (later : Sound f lb lv lr h)
     (b : ℕ) (one : 1 ≤ b) (all : b ≤ count main h) where
   inside : b ≤ length (mainItems h)
   inside = rw (count-keep main (λ e. e .item) h) all
@@ -150,25 +150,25 @@ later-keeps (accepted g) held left e = e
 
 -- ---- the entry, from the words of both boards and what the four buffers held: the kept board's tables ki and kt, the later one's li and lt
 
-module _ (f : Format) (kb kv lb lv ki kt li lt : List ℕ) (b : ℕ) where
+module _ (f : Format) (kb kv kr lb lv lr ki kt li lt : List ℕ) (b : ℕ) where
   abbrev kept : Outcome
-  kept = audit f kb kv (length ki) (length kt)
+  kept = audit f kb kv kr (length ki) (length kt)
 
   abbrev later : Outcome
-  later = audit f lb lv (length li) (length lt)
+  later = audit f lb lv lr (length li) (length lt)
 
   pub names-kept : (n k : ℕ) → (comparingAnswer kept later b ≡ refusedBoard keptBoard n k) ↔ Refuses f kept n k
-  names-kept n k = kept-named f b n k kept later (audit-numbered f kb kv (length ki) (length kt))
+  names-kept n k = kept-named f b n k kept later (audit-numbered f kb kv kr (length ki) (length kt))
 
   pub names-later : (n k : ℕ)
       → (comparingAnswer kept later b ≡ refusedBoard laterBoard n k) ↔ ((g : History) × (kept ≡ accepted g) × (Refuses f later n k ⊎ NoSuch (count main) later b n k))
-  names-later n k = later-named-after f b n k kept later (audit-numbered f lb lv (length li) (length lt))
+  names-later n k = later-named-after f b n k kept later (audit-numbered f lb lv lr (length li) (length lt))
 
   pub later-tables-keep : (length (laterIndexAfter kept later li) ≡ length li) × (length (laterBallotsAfter kept later lt) ≡ length lt)
   later-tables-keep =
-      let (index, ballots) = tables-keep f lb lv li lt in
+      let (index, ballots) = tables-keep f lb lv lr li lt in
       (later-keeps kept li _ index, later-keeps kept lt _ ballots)
 
   pub answered-audits : {g h : History} → kept ≡ accepted g → later ≡ accepted h → 1 ≤ b → b ≤ count main h → Answered f g h b (comparingAnswer kept later b)
   answered-audits {g} {h} p q one all =
-      rw (p, q) (answered (accepted↔sound f kb kv _ _ g .0 p .0) (accepted↔sound f lb lv _ _ h .0 q .0) b one all)
+      rw (p, q) (answered (accepted↔sound f kb kv kr _ _ g .0 p .0) (accepted↔sound f lb lv lr _ _ h .0 q .0) b one all)

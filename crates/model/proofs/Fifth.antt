@@ -12,6 +12,7 @@ use Rattle.model.specs.Codes.{ballotType}
 use Rattle.model.specs.Format.{Format}
 use Rattle.model.specs.Item.{code}
 use Rattle.model.specs.History.{History, entry, itemNo, mainNumber, castOrSpoil, closer}
+use Rattle.model.specs.Roll.{Eligibility}
 use Rattle.model.specs.Audit.{accepted, audit, itemLimit, indexRow}
 use Rattle.model.specs.Report.{closerColumn, rowWord, noNumber, numberWord, rowWords, indexRowOf, tableAfter, indexAfter}
 use Rattle.model.specs.Sound.{Passed}
@@ -27,16 +28,16 @@ abbrev Says : List ℕ → History → Type 0
 Says table h = (k : ℕ) → 1 ≤ k → k ≤ length h → SaysOf table h k
 
 -- so it is where the audit accepts
-pub accepted-says : (f : Format) (ws vs index ballots : List ℕ) (h : History) → audit f ws vs (length index) (length ballots) ≡ accepted h
-    → Says (indexAfter (audit f ws vs (length index) (length ballots)) index) h
+pub accepted-says : (f : Format) (ws vs roll index ballots : List ℕ) (h : History) → audit f ws vs roll (length index) (length ballots) ≡ accepted h
+    → Says (indexAfter (audit f ws vs roll (length index) (length ballots)) index) h
 unfolding tableAfter
-accepted-says f ws vs index ballots h a k one all = rw a (index-says (length index) h k one all)
+accepted-says f ws vs roll index ballots h a k one all = rw a (index-says (length index) h k one all)
 
 -- word for word
-pub accepted-row : (f : Format) (ws vs index ballots : List ℕ) (h : History) → let o = audit f ws vs (length index) (length ballots) in
+pub accepted-row : (f : Format) (ws vs roll index ballots : List ℕ) (h : History) → let o = audit f ws vs roll (length index) (length ballots) in
     o ≡ accepted h → (k : ℕ) → 1 ≤ k → k ≤ length h → part (indexRow * (k - 1)) indexRow (indexAfter o index) ≡ rowWords (entry h k) (mainNumber h (k - 1)) (closer h k)
 unfolding tableAfter indexRowOf
-accepted-row f ws vs index ballots h a k one all =
+accepted-row f ws vs roll index ballots h a k one all =
     let next : suc (k - 1) ≡ k = omega arith in
     rw a (index-row (length index) h k one all ∙ ap (λ (n : ℕ). rowWords (entry h k) (mainNumber h (k - 1)) (closer h n)) next)
 
@@ -71,7 +72,7 @@ module _ {table : List ℕ} {h : History} (says : Says table h) where
       let (some, same) = used j oj aj n in
       closers-differ h j k some (sym same ∙ e ∙ used k ok ak (λ q. n (e ∙ q)) .1)
 
-  module _ {f : Format} {ws vs : List ℕ} (p : Passed f ws vs h) (few : length h ≤ itemLimit) where
+  module _ {f : Format} {on : Eligibility} {ws vs : List ℕ} (p : Passed f on ws vs h) (few : length h ≤ itemLimit) where
     pub named-once : (c : ℕ) → T (castOrSpoil (code (itemNo h c)))
         → (code (itemNo h (entry h c .parent)) ≡ ballotType) × (fifth (entry h c .parent) ≡ c)
         × ((k : ℕ) → 1 ≤ k → k ≤ length h → fifth k ≡ c → k ≡ entry h c .parent)

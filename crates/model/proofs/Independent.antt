@@ -18,6 +18,7 @@ use Rattle.model.specs.Links.{previousOk, parentOk, timeOk}
 use Rattle.model.specs.Phase.{sameRound, rounds, isOpen, sessionOf, extractionOk, openOk, standingOk, latestOk, intentOk, spoiledOk, phaseOk}
 use Rattle.model.specs.Only.{onBoardOk, underParentOk, underBallotOk, onlyOk}
 use Rattle.model.specs.Content.{defines, contestsOk, enables, mayVote, contestOk, thresholdOk, authorizerOk, roundOk, sessionOk, commitmentOk, ballotOk, fingerprintOk, trusteesOk, contentOk}
+use Rattle.model.specs.Roll.{Eligibility}
 use Rattle.model.specs.Keys.{keyOf, goodVerdict}
 use Rattle.model.specs.Audit.{checks}
 use Rattle.model.specs.Alone.{mainList, replay, MainBoard}
@@ -267,8 +268,8 @@ record SameRules (f : Format) (g h : History) (i : Item) (r : Row) : Type 0 wher
   key : keyOf g (r .writer) i ≡ keyOf h (r .writer) i
 
 -- so it is of a main item, after boards with the same main items
-module _ {f : Format} {ws vs xs ys : List ℕ} {g h : History} (a : Passed f ws vs g) (b : Passed f xs ys h) (q : mainList g ≡ mainList h)
-    (i : Item) (t : T (isMain i)) where
+module _ {f : Format} {on on′ : Eligibility} {ws vs xs ys : List ℕ} {g h : History} (a : Passed f on ws vs g) (b : Passed f on′ xs ys h)
+    (q : mainList g ≡ mainList h) (i : Item) (t : T (isMain i)) where
   -- what any history and its main items alone tell alike
   across : {X : Type 0} (r : History → Item → X) → ((h : History) → Orderly f h → r h i ≡ r (mains h) (unsigned i)) → r g i ≡ r h i
   across r same =
@@ -289,14 +290,14 @@ module _ {f : Format} {ws vs xs ys : List ℕ} {g h : History} (a : Passed f ws 
       }
 
   -- the checks of it say the same, each of them
-  pub same-checks : (v : List ℕ) (l : Listed f (i .head)) → checks f g v (l .row) i ≡ checks f h v (l .row) i
+  pub same-checks : (who : Eligibility) (v : List ℕ) (l : Listed f (i .head)) → checks f who g v (l .row) i ≡ checks f who h v (l .row) i
   unfolding checks
-  same-checks v l =
+  same-checks who v l =
       let s = same-rules l in
       rw (s .previous, s .parent, s .time, s .phase, s .only, s .content, s .key)
 
   -- and it meets the rules after both or after neither
-  pub main-independent : {v : List ℕ} → Meets f g v i → Meets f h v i
+  pub main-independent : {who : Eligibility} {v : List ℕ} → Meets f who g v i → Meets f who h v i
   main-independent m =
       let s = same-rules (m .listed) in
       record {
@@ -310,27 +311,28 @@ module _ {f : Format} {ws vs xs ys : List ℕ} {g h : History} (a : Passed f ws 
         phase = subst T (s .phase) (m .phase);
         only = subst T (s .only) (m .only);
         content = subst T (s .content) (m .content);
+        enrolled = m .enrolled;
         verdict = m .verdict ∙ ap goodVerdict (s .key);
       }
 
 -- ---- the main items as a board of their own
 
 -- the main items of a history h, in no more words than its words ws, as a passed history
-record MainPart (f : Format) (ws : List ℕ) (h : History) : Type 0 where
+record MainPart (f : Format) (on : Eligibility) (ws : List ℕ) (h : History) : Type 0 where
   words : List ℕ
   verdicts : List ℕ
   history : History
-  passed : Passed f words verdicts history
+  passed : Passed f on words verdicts history
   items : map (λ e. e .item) history ≡ mainItems h
   mains : mainItems history ≡ mainItems h
   short : length words ≤ length ws
 
 -- one more item
-module _ {f : Format} {us ts v : List ℕ} {g : History} {i : Item} (b : Passed f us ts g) (m : Meets f g v i) (p : MainPart f us g) where
+module _ {f : Format} {on : Eligibility} {us ts v : List ℕ} {g : History} {i : Item} (b : Passed f on us ts g) (m : Meets f on g v i) (p : MainPart f on us g) where
   abbrev new : Entry
   new = entryOf g (length us) i
 
-  with-main : T (isMain i) → MainPart f (us ++ wordsOf i) (g ++ (new ∷ []))
+  with-main : T (isMain i) → MainPart f on (us ++ wordsOf i) (g ++ (new ∷ []))
   unfolding if_then_else_ entryOf
   with-main t =
       let e = entryOf (p .history) (length (p .words)) i in
@@ -346,7 +348,7 @@ module _ {f : Format} {us ts v : List ℕ} {g : History} {i : Item} (b : Passed 
         short = simp length-append (omega (arith, p .short));
       }
 
-  with-hidden : isMain i ≡ false → MainPart f (us ++ wordsOf i) (g ++ (new ∷ []))
+  with-hidden : isMain i ≡ false → MainPart f on (us ++ wordsOf i) (g ++ (new ∷ []))
   unfolding if_then_else_ entryOf
   with-hidden q =
       let same : mainItems (g ++ (new ∷ [])) ≡ mainItems g = rw (mainItems-snoc g new, q) in
@@ -361,7 +363,7 @@ module _ {f : Format} {us ts v : List ℕ} {g : History} {i : Item} (b : Passed 
       }
 
 -- a board's main items alone pass
-main-alone : {f : Format} {ws vs : List ℕ} {h : History} → Passed f ws vs h → MainPart f ws h
+main-alone : {f : Format} {on : Eligibility} {ws vs : List ℕ} {h : History} → Passed f on ws vs h → MainPart f on ws h
 unfolding keep
 main-alone none = record { words = []; verdicts = []; history = []; passed = none; items = refl; mains = refl; short = zero-le }
 main-alone (next us ts g v i b m) =
@@ -374,7 +376,7 @@ genesis-main [] all o l = l
 genesis-main (e ∷ es) all o l = rw (is-true (main e) (all .0 o)) (omega arith)
 
 -- and those of a sound board are a sound board
-pub main-board : {f : Format} {ws vs : List ℕ} {h : History} → Sound f ws vs h → MainBoard f h
+pub main-board : {f : Format} {ws vs roll : List ℕ} {h : History} → Sound f ws vs roll h → MainBoard f roll h
 main-board {ws} {h} s =
     let p = main-alone (s .passed) in
     let o = orderly (s .passed) in
@@ -388,6 +390,7 @@ main-board {ws} {h} s =
       sound = record {
         words = p .words;
         passed = p .passed;
+        goodRoll = s .goodRoll;
         opened = omega (arith, many, genesis-main h (typed-only o 1 (omega arith)) (o .opens) (s .opened));
         few = omega (arith, many, count-few main h, s .few);
         short = simp length-append (omega (arith, long, p .short, s .short));

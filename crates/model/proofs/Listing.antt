@@ -12,6 +12,7 @@ use lib.Dec.{T, ltb}
 use Rattle.model.specs.Refusal.{tooLarge, shortTable}
 use Rattle.model.specs.Format.{Format}
 use Rattle.model.specs.History.{History}
+use Rattle.model.specs.Roll.{Eligibility}
 use Rattle.model.specs.Audit.{Outcome, unread, refused, accepted, audit, isTooLarge, isShort, indexNeed, ballotNeed}
 use Rattle.model.specs.Report.{reportOf, Refuses, NoSuch, filled, tableAfter, indexAfter, ballotsAfter, outside}
 use Rattle.model.specs.Sound.{Sound, Passed}
@@ -24,44 +25,44 @@ use Rattle.model.proofs.Report.{Numbered, audit-numbered, filled-rows, 
 
 -- ---- the audit of this entry: 1, then 2 for any of the three buffers, then the rest
 
-module _ (f : Format) (ws vs : List ℕ) (index ballots list : ℕ) where
-  pub too-large : T (isTooLarge ws) → ancestryAudit f ws vs index ballots list ≡ unread tooLarge
+module _ (f : Format) (ws vs roll : List ℕ) (index ballots list : ℕ) where
+  pub too-large : T (isTooLarge ws) → ancestryAudit f ws vs roll index ballots list ≡ unread tooLarge
   unfolding ancestryAudit
   too-large t = if-yes (isTooLarge ws) _ _ t
 
-  pub short-buffer : T (not (isTooLarge ws)) → T (isShort index ballots || ltb list listNeed) → ancestryAudit f ws vs index ballots list ≡ unread shortTable
+  pub short-buffer : T (not (isTooLarge ws)) → T (isShort index ballots || ltb list listNeed) → ancestryAudit f ws vs roll index ballots list ≡ unread shortTable
   unfolding ancestryAudit audit
   short-buffer t u =
       if-no (isTooLarge ws) _ _ t
       ∙ by-if (λ o. o ≡ unread shortTable) (ltb list listNeed) _ _ (λ s. refl)
       (λ s. if-no (isTooLarge ws) _ _ t ∙ if-yes (isShort index ballots) _ _ (or-else (isShort index ballots) (ltb list listNeed) u s))
 
-  pub as-audited : listNeed ≤ list → ancestryAudit f ws vs index ballots list ≡ audit f ws vs index ballots
+  pub as-audited : listNeed ≤ list → ancestryAudit f ws vs roll index ballots list ≡ audit f ws vs roll index ballots
   unfolding ancestryAudit audit
   as-audited l =
-      by-if (λ o. o ≡ audit f ws vs index ballots) (isTooLarge ws) _ _ (λ t. sym (if-yes (isTooLarge ws) _ _ t))
+      by-if (λ o. o ≡ audit f ws vs roll index ballots) (isTooLarge ws) _ _ (λ t. sym (if-yes (isTooLarge ws) _ _ t))
       (λ t. if-no (ltb list listNeed) _ _ (omega (arith, tests)))
 
   -- a property of every outcome
-  by-audit : (P : Outcome → Type 0) → P (unread tooLarge) → P (unread shortTable) → (listNeed ≤ list → P (audit f ws vs index ballots))
-      → P (ancestryAudit f ws vs index ballots list)
+  by-audit : (P : Outcome → Type 0) → P (unread tooLarge) → P (unread shortTable) → (listNeed ≤ list → P (audit f ws vs roll index ballots))
+      → P (ancestryAudit f ws vs roll index ballots list)
   unfolding ancestryAudit
   by-audit P large short rest =
       by-if P (isTooLarge ws) _ _ (λ t. large)
       λ t. by-if P (ltb list listNeed) _ _ (λ u. short) (λ u. rest (omega (arith, tests)))
 
-  numbered : Numbered (ancestryAudit f ws vs index ballots list)
-  numbered = by-audit Numbered (omega arith) (omega arith) (λ l. audit-numbered f ws vs index ballots)
+  numbered : Numbered (ancestryAudit f ws vs roll index ballots list)
+  numbered = by-audit Numbered (omega arith) (omega arith) (λ l. audit-numbered f ws vs roll index ballots)
 
   -- accepted exactly where the board is sound and the three buffers are long enough
   pub accepted-listing : (h : History)
-      → (ancestryAudit f ws vs index ballots list ≡ accepted h) ↔ (Sound f ws vs h × (indexNeed ≤ index) × (ballotNeed ≤ ballots) × (listNeed ≤ list))
+      → (ancestryAudit f ws vs roll index ballots list ≡ accepted h) ↔ (Sound f ws vs roll h × (indexNeed ≤ index) × (ballotNeed ≤ ballots) × (listNeed ≤ list))
   accepted-listing h = (
-    by-audit (λ o. o ≡ accepted h → Sound f ws vs h × (indexNeed ≤ index) × (ballotNeed ≤ ballots) × (listNeed ≤ list))
+    by-audit (λ o. o ≡ accepted h → Sound f ws vs roll h × (indexNeed ≤ index) × (ballotNeed ≤ ballots) × (listNeed ≤ list))
         (λ e. let z : _≡_ {A = ℕ} 0 1 = cc in absurd (omega arith))
         (λ e. let z : _≡_ {A = ℕ} 0 1 = cc in absurd (omega arith))
-        (λ l e. let (sound, wide, roomy) = accepted↔sound f ws vs index ballots h .0 e in (sound, wide, roomy, l)),
-    λ (sound, wide, roomy, l). as-audited l ∙ accepted↔sound f ws vs index ballots h .1 (sound, wide, roomy),
+        (λ l e. let (sound, wide, roomy) = accepted↔sound f ws vs roll index ballots h .0 e in (sound, wide, roomy, l)),
+    λ (sound, wide, roomy, l). as-audited l ∙ accepted↔sound f ws vs roll index ballots h .1 (sound, wide, roomy),
   )
 
 -- ---- the answer
@@ -129,7 +130,7 @@ module _ (h : History) (k : ℕ) (s : List ℕ) where
       table-filled (accepted h) (written k) s refl
       ∙ ap (filled (length s)) (if-no (outside k (length h)) _ _ (simp neither (omega (arith, tests))))
 
-module _ {f : Format} {ws vs : List ℕ} {h : History} (p : Passed f ws vs h) (k : ℕ) (one : 1 ≤ k) (all : k ≤ length h) (s : List ℕ)
+module _ {f : Format} {on : Eligibility} {ws vs : List ℕ} {h : History} (p : Passed f on ws vs h) (k : ℕ) (one : 1 ≤ k) (all : k ≤ length h) (s : List ℕ)
     (long : length h ≤ length s) where
   lists : HoldsAncestry h k (length (ancestry h k)) (listAfter (accepted h) k s)
   lists =
@@ -149,20 +150,20 @@ module _ {f : Format} {ws vs : List ℕ} {h : History} (p : Passed f ws vs h) (k
 
 -- ---- the entry, from the words of the board and what the three buffers held
 
-module _ (f : Format) (ws vs s t l : List ℕ) (k : ℕ) where
+module _ (f : Format) (ws vs roll s t l : List ℕ) (k : ℕ) where
   abbrev outcome : Outcome
-  outcome = ancestryAudit f ws vs (length s) (length t) (length l)
+  outcome = ancestryAudit f ws vs roll (length s) (length t) (length l)
 
   -- a refusal: the audit's, or 19
   pub unlisted-entry : (n i : ℕ) → (ancestryAnswer outcome k ≡ unlisted n i) ↔ (Refuses f outcome n i ⊎ NoSuch length outcome k n i)
-  unlisted-entry n i = unlisted-is f k n i outcome (numbered f ws vs (length s) (length t) (length l))
+  unlisted-entry n i = unlisted-is f k n i outcome (numbered f ws vs roll (length s) (length t) (length l))
 
   -- an item of an accepted board: its ancestry is listed
   pub listed-entry : {h : History} → outcome ≡ accepted h → 1 ≤ k → k ≤ length h
       → (ancestryAnswer outcome k ≡ listed (length (ancestry h k))) × HoldsAncestry h k (length (ancestry h k)) (listAfter outcome k l)
   unfolding ancestryAnswer
   listed-entry {h} e one all =
-      let (sound, wide, roomy, long) = accepted-listing f ws vs (length s) (length t) (length l) h .0 e in
+      let (sound, wide, roomy, long) = accepted-listing f ws vs roll (length s) (length t) (length l) h .0 e in
       let few = sound .few in
       rw e (if-no (outside k (length h)) _ _ (simp neither (omega (arith, tests))), lists (sound .passed) k one all l (omega arith))
 
@@ -181,7 +182,7 @@ module _ (f : Format) (ws vs s t l : List ℕ) (k : ℕ) where
   written-fits : (h : History) → outcome ≡ accepted h → length (written k h) ≤ length l
   unfolding written
   written-fits h e =
-      let (sound, wide, roomy, long) = accepted-listing f ws vs (length s) (length t) (length l) h .0 e in
+      let (sound, wide, roomy, long) = accepted-listing f ws vs roll (length s) (length t) (length l) h .0 e in
       let few = sound .few in
       by-if (λ (ns : List ℕ). length ns ≤ length l) (outside k (length h)) _ _ (λ u. omega arith)
       λ u.
@@ -192,7 +193,7 @@ module _ (f : Format) (ws vs s t l : List ℕ) (k : ℕ) where
   pub listing-keeps : (length (indexAfter outcome s) ≡ length s) × (length (ballotsAfter outcome t) ≡ length t) × (length (listAfter outcome k l) ≡ length l)
   unfolding tableAfter
   listing-keeps = (
-    by-audit f ws vs (length s) (length t) (length l) (λ o. length (indexAfter o s) ≡ length s) refl refl (λ m. tables-keep f ws vs s t .0),
-    by-audit f ws vs (length s) (length t) (length l) (λ o. length (ballotsAfter o t) ≡ length t) refl refl (λ m. tables-keep f ws vs s t .1),
+    by-audit f ws vs roll (length s) (length t) (length l) (λ o. length (indexAfter o s) ≡ length s) refl refl (λ m. tables-keep f ws vs roll s t .0),
+    by-audit f ws vs roll (length s) (length t) (length l) (λ o. length (ballotsAfter o t) ≡ length t) refl refl (λ m. tables-keep f ws vs roll s t .1),
     table-keeps outcome (written k) l written-fits,
   )

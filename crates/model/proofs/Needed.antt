@@ -17,6 +17,7 @@ use Rattle.model.specs.Types.{table}
 use Rattle.model.specs.History.{History, entry, itemNo, typed, first}
 use Rattle.model.specs.Counted.{Vote, voteOf, counted, LastCast}
 use Rattle.model.specs.Needed.{ownItems, ownTypes, configTypes, configItems, typesOf, Needs}
+use Rattle.model.specs.Roll.{Eligibility}
 use Rattle.model.specs.Sound.{Passed}
 use Rattle.model.proofs.Tests.{passes}
 use Rattle.model.proofs.Lists.{Every, every-map, map-same}
@@ -29,7 +30,7 @@ use Rattle.model.proofs.Ancestry.{session-parent}
 use Rattle.model.proofs.Rows.{counted-casts}
 use Rattle.model.proofs.Config.{before-session}
 
-module _ {f : Format} {ws vs : List ℕ} {h : History} (p : Passed f ws vs h) where
+module _ {f : Format} {on : Eligibility} {ws vs : List ℕ} {h : History} (p : Passed f on ws vs h) where
   -- ---- items of its own
 
   -- item k is of the type c and has the session s

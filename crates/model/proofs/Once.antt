@@ -16,6 +16,7 @@ use Rattle.model.specs.Format.{Format}
 use Rattle.model.specs.Item.{code}
 use Rattle.model.specs.History.{History, Entry, absent, entry, itemNo, typed, parentNumber, childOf}
 use Rattle.model.specs.Only.{onBoardOk, underParentOk, underBallotOk}
+use Rattle.model.specs.Roll.{Eligibility}
 use Rattle.model.specs.Sound.{Meets, Passed}
 use Rattle.model.proofs.Tests.{eq→eqb, or-left, or-right, and-iff, implies-iff, not-iff, facts}
 use Rattle.model.proofs.Rules.{only-rules}
@@ -32,10 +33,10 @@ any-before q (e ∷ es) zero (suc m) l n t = or-left (q e) (any q (take m es)) t
 any-before q (e ∷ es) (suc j) (suc m) l n t =
     or-right (q e) (any q (take m es)) (any-before q es j m (le-of-suc-le-suc l) (le-of-suc-le-suc n) t)
 
-module _ {f : Format} {ws vs : List ℕ} {h : History} (p : Passed f ws vs h) where
+module _ {f : Format} {on : Eligibility} {ws vs : List ℕ} {h : History} (p : Passed f on ws vs h) where
   -- entries that pass `kind` have none `beside` them, if none was there before
   module _ (kind : Entry → Bool) (typed-kind : (e : Entry) → T (kind e) → 1 ≤ code (e .item)) (beside : Entry → Entry → Bool)
-      (alone : (g : History) (v : List ℕ) (e : Entry) → Meets f g v (e .item) → e .parent ≡ parentNumber g (e .item) → T (kind e)
+      (alone : (g : History) (v : List ℕ) (e : Entry) → Meets f on g v (e .item) → e .parent ≡ parentNumber g (e .item) → T (kind e)
       → T (any (beside e) g) → ⊥) where
     not-earlier : (j k : ℕ) → 1 ≤ j → k ≤ length h → j < k → T (kind (entry h k)) → T (beside (entry h k) (entry h j)) → ⊥
     unfolding entry

@@ -20,6 +20,7 @@ use Rattle.model.specs.Types.{table}
 use Rattle.model.specs.History.{History, Entry, entry, itemNo, main, typed, first, mainNumber, parentNumber, childOf, closer}
 use Rattle.model.specs.Counted.{Vote, voteOf, counted}
 use Rattle.model.specs.Phase.{extractionOk, openOk, standingOk, latestOk, intentOk, trackBallot, isSpoiled, spoiledOk, phaseOk}
+use Rattle.model.specs.Roll.{Eligibility}
 use Rattle.model.specs.Sound.{Passed}
 use Rattle.model.proofs.Tests.{by-test, passes, is-true, is-false, eq→eqb, facts}
 use Rattle.model.proofs.Lists.{Every, every-map}
@@ -86,7 +87,7 @@ module _ (h : History) (i : Item) where
 
 -- ---- voter openings of a passed history
 
-module _ {f : Format} {ws vs : List ℕ} {h : History} (p : Passed f ws vs h) where
+module _ {f : Format} {on : Eligibility} {ws vs : List ℕ} {h : History} (p : Passed f on ws vs h) where
   -- an item of type c, whose parents are of type d: its parent, and that this is earlier
   above : (c d k : ℕ) → 2 ≤ c → T (parentType f (λ x. eqb x c) d) → code (itemNo h k) ≡ c
       → (code (itemNo h (entry h k .parent)) ≡ d) × (entry h k .parent < k)

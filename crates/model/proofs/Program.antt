@@ -1,9 +1,11 @@
--- What the program prints: it needs of both files only their byte counts and as many words as it has room for, and what it prints for empty
+-- What the program prints: it needs of the files only their byte counts and as many words as it has room for, and what it prints for empty
 -- files, for a sound board, and for genesis alone. Paper: "The auditing program". Assumes nothing.
 use Prim.Native.Nat.{ℕ, zero, suc, _*_, _/_, _≤_, _<_}
 use native.Mathlib.Omega.{arith}
+use native.Mathlib.Decide.{decLe}
 use mathlib.Core.Path.{_≡_, refl, sym, ap, _∙_}
-use mathlib.Core.Bool.{not, _||_}
+use mathlib.Core.Logic.{by-cases}
+use mathlib.Core.Bool.{true, not}
 use mathlib.Core.Option.{Option, none, some}
 use mathlib.Core.List.{List, [], _∷_, append-nil}
 use lib.ListN.{length, getD, take, length-append, length-take}
@@ -12,26 +14,28 @@ use lib.Dec.{T, eqb, eqb→eq, leb, ltb}
 use borrow.Author.Tests.{ltb-false, leb-false, eqb-true, eqb-false, eq-eqb, ne-eqb}
 use Rattle.model.specs.Lists.{if_then_else_, count, keep, latest}
 use Rattle.model.specs.Words.{countOf}
-use Rattle.model.specs.Refusal.{tooLarge, truncated}
+use Rattle.model.specs.Refusal.{tooLarge, truncated, badRoll}
 use Rattle.model.specs.Format.{Format, secp256r1, verdictSize}
 use Rattle.model.specs.Item.{itemLength, behind, code}
 use Rattle.model.specs.Types.{Row, rowOf, fits, table}
 use Rattle.model.specs.History.{History, main}
 use Rattle.model.specs.Counted.{counted, totalWeight}
-use Rattle.model.specs.Audit.{Outcome, accepted, faultIn, fault, closing, judged, wordAt, items, audit, itemLimit, indexNeed, ballotNeed}
+use Rattle.model.specs.Roll.{Eligibility, electors, rising, isBadRoll, onRoll}
+use Rattle.model.specs.Audit.{Outcome, accepted, faultIn, fault, closing, judged, wordAt, items, audit, itemLimit, indexNeed, ballotNeed, isTooLarge}
 use Rattle.model.specs.Report.{ballotRows}
 use Rattle.model.specs.Sound.{Passed, next, Sound}
-use Rattle.model.specs.Program.{fromBytes, bytesPerWord, programLimit, leastItem, programItems, verdictLimit, isWhole, sizeFault, sized, programOutcome, filesOutcome, digits, spaced, refusedLine, acceptedLine, rowLines, textOf, printed}
-use Rattle.model.proofs.Tests.{tests, by-test, is-true, by-if, if-yes, if-no, neither, not-not}
+use Rattle.model.specs.Program.{fromBytes, bytesPerWord, programLimit, leastItem, programItems, verdictLimit, rollWords, areWhole, sizeFault, sized, programOutcome, filesOutcome, digits, spaced, refusedLine, acceptedLine, rowLines, textOf, printed}
+use Rattle.model.proofs.Tests.{tests, by-test, is-true, is-false, by-if, if-yes, if-no, not-not}
 use Rattle.model.proofs.Parts.{part-take}
 use Rattle.model.proofs.Parsing.{length-words}
 use Rattle.model.proofs.Table.{countType, count-type-law}
 use Rattle.model.proofs.Entries.{orderly, typed-main, first-genesis}
 use Rattle.model.proofs.Acceptance.{accepted↔sound}
+use Rattle.model.proofs.Roll.{good-roll}
 
 -- ---- verdict words past 3,430
 
-module _ (f : Format) (ws vs : List ℕ) (least : leastItem ≤ itemLength f 0) (short : length ws ≤ programLimit) where
+module _ (f : Format) (on : Eligibility) (ws vs : List ℕ) (least : leastItem ≤ itemLength f 0) (short : length ws ≤ programLimit) where
   abbrev front : List ℕ
   front = take verdictLimit vs
 
@@ -39,7 +43,7 @@ module _ (f : Format) (ws vs : List ℕ) (least : leastItem ≤ itemLength f 0) 
   abbrev Behind : History → ℕ → Type 0
   Behind h p = leastItem * length h ≤ p
 
-  fault-cut : (r : Option Row) (h : History) (p : ℕ) → Behind h p → faultIn f ws front r h p ≡ faultIn f ws vs r h p
+  fault-cut : (r : Option Row) (h : History) (p : ℕ) → Behind h p → faultIn f on ws front r h p ≡ faultIn f on ws vs r h p
   unfolding faultIn itemLength
   fault-cut none h p b = refl
   fault-cut (some r) h p b =
@@ -48,7 +52,7 @@ module _ (f : Format) (ws vs : List ℕ) (least : leastItem ≤ itemLength f 0) 
       (λ q. rw (part-take (verdictSize * length h) verdictSize verdictLimit vs (omega (arith, ltb-false (length ws) (behind f ws p) q))))
 
   -- an item without a fault is whole
-  fault-whole : (r : Option Row) (h : History) (p : ℕ) → faultIn f ws vs r h p ≡ 0 → behind f ws p ≤ length ws
+  fault-whole : (r : Option Row) (h : History) (p : ℕ) → faultIn f on ws vs r h p ≡ 0 → behind f ws p ≤ length ws
   unfolding faultIn
   fault-whole none h p e = absurd (omega arith)
   fault-whole (some r) h p e =
@@ -79,23 +83,35 @@ module _ (f : Format) (ws vs : List ℕ) (least : leastItem ≤ itemLength f 0) 
       (λ q. rw q)
       (λ q. rw (q, closing-cut h p b (leb-false (length ws) p q), e))
 
-  items-cut : (k : ℕ) (h : History) (p : ℕ) → Behind h p → items f ws front k h p ≡ items f ws vs k h p
+  items-cut : (k : ℕ) (h : History) (p : ℕ) → Behind h p → items f on ws front k h p ≡ items f on ws vs k h p
   unfolding items itemLength
   items-cut zero h p b = word-cut h p _ _ b refl
   items-cut (suc k) h p b =
       word-cut h p _ _ b
-      (rw (fault-cut (rowOf f (getD ws p 0)) h p b) (judged-cut (fault f ws vs h p) h _ _
+      (rw (fault-cut (rowOf f (getD ws p 0)) h p b) (judged-cut (fault f on ws vs h p) h _ _
       (λ e. items-cut k _ _ (rw length-append (omega (arith, fault-whole (rowOf f (getD ws p 0)) h p e))))))
 
-  pub audit-cut : (index ballots : ℕ) → audit f ws front index ballots ≡ audit f ws vs index ballots
-  unfolding audit
-  audit-cut index ballots = rw (items-cut itemLimit [] 0 (omega arith))
+-- ---- roll words past 4,097
 
--- the board's words too
-both-cut : (f : Format) (ws vs : List ℕ) → leastItem ≤ itemLength f 0 → length ws ≤ programLimit
-    → audit f (take programLimit ws) (take verdictLimit vs) indexNeed ballotNeed ≡ audit f ws vs indexNeed ballotNeed
-both-cut f ws vs least short =
-    ap (λ us. audit f us (take verdictLimit vs) indexNeed ballotNeed) (take-all programLimit ws short) ∙ audit-cut f ws vs least short indexNeed ballotNeed
+-- more than 4,096 roll words are a bad roll
+long-roll : (roll : List ℕ) → 4096 < length roll → isBadRoll roll ≡ true
+long-roll roll l = by-test (isBadRoll roll) (λ q. q) (λ q. let (even, few, rises) = good-roll roll .0 (rw q tt) in absurd (omega arith))
+
+roll-cut : (f : Format) (ws vs roll : List ℕ) (index ballots : ℕ) → audit f ws vs (take rollWords roll) index ballots ≡ audit f ws vs roll index ballots
+unfolding audit
+roll-cut f ws vs roll index ballots =
+    by-cases (decLe rollWords (length roll))
+    (λ l. rw (long-roll roll l, long-roll (take rollWords roll) (rw length-take (omega arith))))
+    (λ l. rw (take-all rollWords roll (omega arith)))
+
+-- ---- the words of all files
+
+words-cut : (f : Format) (ws vs roll : List ℕ) → leastItem ≤ itemLength f 0 → length ws ≤ programLimit
+    → audit f (take programLimit ws) (take verdictLimit vs) (take rollWords roll) indexNeed ballotNeed ≡ audit f ws vs roll indexNeed ballotNeed
+unfolding audit
+words-cut f ws vs roll least short =
+    roll-cut f (take programLimit ws) (take verdictLimit vs) roll indexNeed ballotNeed
+    ∙ rw (take-all programLimit ws short, items-cut f (onRoll roll) ws vs least short itemLimit [] 0 (omega arith))
 
 -- ---- the base's format
 
@@ -104,13 +120,13 @@ unfolding itemLength
 base-least sha256 = omega arith
 
 -- items have at least so many words
-words-least : {f : Format} {ws vs : List ℕ} {h : History} → leastItem ≤ itemLength f 0 → Passed f ws vs h → leastItem * length h ≤ length ws
+words-least : {f : Format} {on : Eligibility} {ws vs : List ℕ} {h : History} → leastItem ≤ itemLength f 0 → Passed f on ws vs h → leastItem * length h ≤ length ws
 unfolding itemLength
 words-least least Passed.none = omega arith
 words-least {f} least (next ws vs h v i p m) = simp length-append (omega (arith, words-least least p, length-words f i (m .shaped)))
 
 -- a board that the program takes has at most 381 items
-pub few-items : {f : Format} {ws vs : List ℕ} {h : History} → leastItem ≤ itemLength f 0 → Sound f ws vs h → length ws ≤ programLimit → length h ≤ programItems
+pub few-items : {f : Format} {ws vs roll : List ℕ} {h : History} → leastItem ≤ itemLength f 0 → Sound f ws vs roll h → length ws ≤ programLimit → length h ≤ programItems
 few-items least s l = omega (arith, words-least least (s .passed), simp length-append at (ap length (s .closed)))
 
 -- ---- files
@@ -123,28 +139,28 @@ length-from-bytes (a ∷ b ∷ []) = refl
 length-from-bytes (a ∷ []) = refl
 length-from-bytes [] = refl
 
-size-odd : (board verdicts : ℕ) → T (not (isWhole board) || not (isWhole verdicts)) → sizeFault board verdicts ≡ truncated
+size-odd : (board verdicts roll : ℕ) → T (not (areWhole board verdicts roll)) → sizeFault board verdicts roll ≡ truncated
 unfolding sizeFault
-size-odd board verdicts t = if-yes (not (isWhole board) || not (isWhole verdicts)) _ _ t
+size-odd board verdicts roll t = if-yes (not (areWhole board verdicts roll)) _ _ t
 
-size-over : (board verdicts : ℕ) → T (isWhole board) → T (isWhole verdicts) → programLimit < board / bytesPerWord → sizeFault board verdicts ≡ tooLarge
+size-over : (board verdicts roll : ℕ) → T (areWhole board verdicts roll) → programLimit < board / bytesPerWord → sizeFault board verdicts roll ≡ tooLarge
 unfolding sizeFault
-size-over board verdicts b v l =
-    if-no (not (isWhole board) || not (isWhole verdicts)) _ _ (simp (neither, not-not) (b, v))
+size-over board verdicts roll t l =
+    if-no (not (areWhole board verdicts roll)) _ _ (not-not (areWhole board verdicts roll) .1 t)
     ∙ if-yes (ltb programLimit (board / bytesPerWord)) _ _ (omega (arith, tests))
 
 -- sizes without a fault
-size-fine : (board verdicts : ℕ) → sizeFault board verdicts ≡ 0 → board / bytesPerWord ≤ programLimit
+size-fine : (board verdicts roll : ℕ) → sizeFault board verdicts roll ≡ 0 → board / bytesPerWord ≤ programLimit
 unfolding sizeFault
-size-fine board verdicts e =
-    by-if (λ n. n ≡ 0 → board / bytesPerWord ≤ programLimit) (not (isWhole board) || not (isWhole verdicts)) _ _ (λ t q. absurd (omega arith))
+size-fine board verdicts roll e =
+    by-if (λ n. n ≡ 0 → board / bytesPerWord ≤ programLimit) (not (areWhole board verdicts roll)) _ _ (λ t q. absurd (omega arith))
     (λ t. by-if (λ n. n ≡ 0 → board / bytesPerWord ≤ programLimit) (ltb programLimit (board / bytesPerWord)) _ _ (λ u q. absurd (omega arith)) (λ u q. omega (arith, tests)))
     e
 
-size-zero : (board verdicts : ℕ) → T (isWhole board) → T (isWhole verdicts) → board / bytesPerWord ≤ programLimit → sizeFault board verdicts ≡ 0
+size-zero : (board verdicts roll : ℕ) → T (areWhole board verdicts roll) → board / bytesPerWord ≤ programLimit → sizeFault board verdicts roll ≡ 0
 unfolding sizeFault
-size-zero board verdicts b v l =
-    if-no (not (isWhole board) || not (isWhole verdicts)) _ _ (simp (neither, not-not) (b, v))
+size-zero board verdicts roll t l =
+    if-no (not (areWhole board verdicts roll)) _ _ (not-not (areWhole board verdicts roll) .1 t)
     ∙ if-no (ltb programLimit (board / bytesPerWord)) _ _ (omega (arith, tests))
 
 sized-cut : (n : ℕ) (o o′ : Outcome) → (n ≡ 0 → o ≡ o′) → sized n o ≡ sized n o′
@@ -152,34 +168,50 @@ unfolding sized
 sized-cut zero o o′ e = e refl
 sized-cut (suc n) o o′ e = refl
 
-module _ (f : Format) (board verdicts : List ℕ) where
-  -- of the files' words, the first 16,384 and the first 3,430 are enough
+module _ (f : Format) (board verdicts roll : List ℕ) where
+  -- the byte counts are multiples of 4
+  abbrev pub WholeFiles : Type 0
+  WholeFiles = T (areWhole (length board) (length verdicts) (length roll))
+
+  -- of the files' words, the first 16,384, the first 3,430 and the first 4,097 are enough
   pub files-cut : leastItem ≤ itemLength f 0
-      → programOutcome f (length board) (length verdicts) (take programLimit (fromBytes board)) (take verdictLimit (fromBytes verdicts))
-      ≡ filesOutcome f board verdicts
+      → programOutcome f (length board) (length verdicts) (length roll)
+      (take programLimit (fromBytes board)) (take verdictLimit (fromBytes verdicts)) (take rollWords (fromBytes roll))
+      ≡ filesOutcome f board verdicts roll
   unfolding filesOutcome
   files-cut least =
-      sized-cut (sizeFault (length board) (length verdicts)) _ _
-      (λ e. both-cut f (fromBytes board) (fromBytes verdicts) least (rw length-from-bytes (size-fine (length board) (length verdicts) e)))
+      sized-cut (sizeFault (length board) (length verdicts) (length roll)) _ _
+      (λ e. words-cut f (fromBytes board) (fromBytes verdicts) (fromBytes roll) least
+      (rw length-from-bytes (size-fine (length board) (length verdicts) (length roll) e)))
 
   -- "if either file's byte count isn't a multiple of 4, it is refused as 4 with 0", whatever else is wrong
-  pub odd-size : T (not (isWhole (length board)) || not (isWhole (length verdicts))) → printed f board verdicts ≡ refusedLine truncated 0
+  pub odd-size : T (not (areWhole (length board) (length verdicts) (length roll))) → printed f board verdicts roll ≡ refusedLine truncated 0
   unfolding filesOutcome sized textOf
-  odd-size t = rw (size-odd (length board) (length verdicts) t)
+  odd-size t = rw (size-odd (length board) (length verdicts) (length roll) t)
 
   -- "a board of at most 16,384 words (more is refused as 1)"
-  pub over-size : T (isWhole (length board)) → T (isWhole (length verdicts)) → programLimit < length (fromBytes board)
-      → printed f board verdicts ≡ refusedLine tooLarge 0
+  pub over-size : WholeFiles → programLimit < length (fromBytes board) → printed f board verdicts roll ≡ refusedLine tooLarge 0
   unfolding filesOutcome sized textOf
-  over-size b v l = rw (size-over (length board) (length verdicts) b v (rw length-from-bytes at l))
+  over-size t l = rw (size-over (length board) (length verdicts) (length roll) t (rw length-from-bytes at l))
+
+  -- "more than 4,096 words are a bad roll"
+  pub over-roll : WholeFiles → length (fromBytes board) ≤ programLimit → 4096 < length (fromBytes roll)
+      → printed f board verdicts roll ≡ refusedLine badRoll 0
+  unfolding filesOutcome sized textOf audit
+  over-roll t short l =
+      rw (
+        size-zero (length board) (length verdicts) (length roll) t (rw length-from-bytes at short),
+        is-false (isTooLarge (fromBytes board)) (omega (arith, tests)),
+        long-roll (fromBytes roll) l,
+      )
 
   -- a sound board that fits the program is printed as accepted
-  pub sound-printed : {h : History} → T (isWhole (length board)) → T (isWhole (length verdicts)) → length (fromBytes board) ≤ programLimit
-      → Sound f (fromBytes board) (fromBytes verdicts) h → printed f board verdicts ≡ textOf (accepted h)
+  pub sound-printed : {h : History} → WholeFiles → length (fromBytes board) ≤ programLimit
+      → Sound f (fromBytes board) (fromBytes verdicts) (fromBytes roll) h → printed f board verdicts roll ≡ textOf (accepted h)
   unfolding filesOutcome sized
-  sound-printed {h} wholeBoard wholeVerdicts short sound =
-      rw (size-zero (length board) (length verdicts) wholeBoard wholeVerdicts (rw length-from-bytes at short))
-      (ap textOf (accepted↔sound f (fromBytes board) (fromBytes verdicts) indexNeed ballotNeed h .1 (sound, omega arith, omega arith)))
+  sound-printed {h} t short sound =
+      rw (size-zero (length board) (length verdicts) (length roll) t (rw length-from-bytes at short))
+      (ap textOf (accepted↔sound f (fromBytes board) (fromBytes verdicts) (fromBytes roll) indexNeed ballotNeed h .1 (sound, omega arith, omega arith)))
 
 -- ---- samples
 
@@ -189,12 +221,12 @@ unfolding fromBytes
 high-byte-first = refl
 
 -- "Empty files print the single line `refused 3 at 0`."
-pub empty-printed : (f : Format) → printed f [] [] ≡ 114 ∷ 101 ∷ 102 ∷ 117 ∷ 115 ∷ 101 ∷ 100 ∷ 32 ∷ 51 ∷ 32 ∷ 97 ∷ 116 ∷ 32 ∷ 48 ∷ 10 ∷ []
-unfolding filesOutcome sizeFault sized audit textOf refusedLine spaced digits fromBytes if_then_else_
+pub empty-printed : (f : Format) → printed f [] [] [] ≡ 114 ∷ 101 ∷ 102 ∷ 117 ∷ 115 ∷ 101 ∷ 100 ∷ 32 ∷ 51 ∷ 32 ∷ 97 ∷ 116 ∷ 32 ∷ 48 ∷ 10 ∷ []
+unfolding filesOutcome sizeFault sized audit isBadRoll electors rising textOf refusedLine spaced digits fromBytes if_then_else_
 empty-printed f = refl
 
 -- one item is genesis
-genesis-text : {f : Format} {ws vs : List ℕ} (h : History) → Passed f ws vs h → length h ≡ 1 → textOf (accepted h) ≡ acceptedLine 1 1 0 0
+genesis-text : {f : Format} {on : Eligibility} {ws vs : List ℕ} (h : History) → Passed f on ws vs h → length h ≡ 1 → textOf (accepted h) ≡ acceptedLine 1 1 0 0
 unfolding textOf counted keep latest count totalWeight ballotRows rowLines
 genesis-text [] p one = absurd (omega arith)
 genesis-text (e ∷ e′ ∷ es) p one = absurd (omega arith)
@@ -205,7 +237,7 @@ genesis-text {f} (e ∷ []) p one =
     let no-cast = ne-eqb (code (e .item)) 20 (omega arith) in
     rw (mains, no-cast, append-nil)
 
-genesis-words : {f : Format} {ws vs : List ℕ} {h : History} → Passed f ws vs h → length h ≡ 1 → length ws ≡ itemLength f 17
+genesis-words : {f : Format} {on : Eligibility} {ws vs : List ℕ} {h : History} → Passed f on ws vs h → length h ≡ 1 → length ws ≡ itemLength f 17
 unfolding countType table
 genesis-words Passed.none one = absurd (omega arith)
 genesis-words (next ws vs h v i (next ws′ vs′ h′ v′ i′ p n) m) one = absurd (omega (arith, simp length-append at one))
@@ -214,11 +246,11 @@ genesis-words {f} (next ws vs h v i Passed.none m) one =
     length-words f i (m .shaped) ∙ ap (itemLength f) count
 
 -- "A sound board of genesis alone prints `accepted 1 1 0 0`."
-pub genesis-printed : (sha256 : List ℕ → List ℕ) (board verdicts : List ℕ) {h : History} → T (isWhole (length board)) → T (isWhole (length verdicts))
-    → Sound (secp256r1 sha256) (fromBytes board) (fromBytes verdicts) h → length h ≡ 1
-    → printed (secp256r1 sha256) board verdicts ≡ 97 ∷ 99 ∷ 99 ∷ 101 ∷ 112 ∷ 116 ∷ 101 ∷ 100 ∷ 32 ∷ 49 ∷ 32 ∷ 49 ∷ 32 ∷ 48 ∷ 32 ∷ 48 ∷ 10 ∷ []
+pub genesis-printed : (sha256 : List ℕ → List ℕ) (board verdicts roll : List ℕ) {h : History}
+    → WholeFiles (secp256r1 sha256) board verdicts roll → Sound (secp256r1 sha256) (fromBytes board) (fromBytes verdicts) (fromBytes roll) h → length h ≡ 1
+    → printed (secp256r1 sha256) board verdicts roll ≡ 97 ∷ 99 ∷ 99 ∷ 101 ∷ 112 ∷ 116 ∷ 101 ∷ 100 ∷ 32 ∷ 49 ∷ 32 ∷ 49 ∷ 32 ∷ 48 ∷ 32 ∷ 48 ∷ 10 ∷ []
 unfolding acceptedLine spaced digits itemLength if_then_else_
-genesis-printed sha256 board verdicts {h} b v s one =
+genesis-printed sha256 board verdicts roll {h} whole s one =
     let short : length (fromBytes board) ≤ programLimit =
     omega (arith, genesis-words (s .passed) one, simp length-append at (ap length (s .closed))) in
-    sound-printed (secp256r1 sha256) board verdicts b v short s ∙ genesis-text h (s .passed) one
+    sound-printed (secp256r1 sha256) board verdicts roll whole short s ∙ genesis-text h (s .passed) one

@@ -14,12 +14,13 @@ use lib.Dec.{eqb, leb}
 use borrow.Author.Tests.{eqb-true, eqb-false}
 use Rattle.model.specs.Lists.{if_then_else_, any}
 use Rattle.model.specs.Words.{isClosing}
-use Rattle.model.specs.Refusal.{noFault, tooLarge, emptyBoard, truncated}
+use Rattle.model.specs.Refusal.{noFault, tooLarge, emptyBoard, truncated, badRoll}
 use Rattle.model.specs.Format.{Format}
 use Rattle.model.specs.Types.{Row, rowOf}
 use Rattle.model.specs.History.{placeOf, history}
+use Rattle.model.specs.Roll.{Eligibility, isBadRoll, onRoll}
 use Rattle.model.specs.Audit.{Outcome, unread, refused, accepted, Check, firstUnmet, checks, faultIn, fault, closing, judged, items, audit, itemLimit, isTooLarge, isShort, isEmpty, closingOk}
-use Rattle.model.specs.Reasons.{Reason, NoneOf, FirstOf, startReasons, listedWith, ClosesAt, HeadAt, itemReasons, closingReasons, Reached, Answers, atStart, atEmpty, atEnd, atItem, atClosing, acceptance}
+use Rattle.model.specs.Reasons.{Reason, NoneOf, FirstOf, startReasons, listedWith, ClosesAt, HeadAt, itemReasons, closingReasons, Reached, Answers, atStart, atRoll, atEmpty, atEnd, atItem, atClosing, acceptance}
 use Rattle.model.proofs.Tests.{tests, by-test, passes, neither, if-yes, if-no}
 use Rattle.model.proofs.FirstReason.{firstNumber, by-first, none-number, first-number, every-first}
 use Rattle.model.proofs.Unchecked.{length-history}
@@ -35,46 +36,46 @@ unfolding unmet firstUnmet firstNumber
 unmet-number [] = refl
 unmet-number (c ∷ cs) = by-test (c .met) (λ q. rw q (unmet-number cs)) (λ q. rw q)
 
-module _ (f : Format) (ws vs : List ℕ) (k : ℕ) where
+module _ (f : Format) (on : Eligibility) (ws vs : List ℕ) (k : ℕ) where
   by-row : (row : Option Row) → rowOf f (getD ws (placeOf f ws k) 0) ≡ row
-      → firstNumber (itemReasons f ws vs k) ≡ (if leb itemLimit k then tooLarge else faultIn f ws vs row (history f ws k) (placeOf f ws k))
+      → firstNumber (itemReasons f on ws vs k) ≡ (if leb itemLimit k then tooLarge else faultIn f on ws vs row (history f ws k) (placeOf f ws k))
   unfolding itemReasons listedWith firstNumber faultIn checks unmet
   by-row none q = rw q
   by-row (some r) q = rw (q, unmet-number)
 
-  full-number : itemLimit ≤ k → firstNumber (itemReasons f ws vs k) ≡ tooLarge
+  full-number : itemLimit ≤ k → firstNumber (itemReasons f on ws vs k) ≡ tooLarge
   full-number l = by-row _ refl ∙ if-yes (leb itemLimit k) _ _ (omega (arith, tests))
 
-  pub fault-number : k < itemLimit → fault f ws vs (history f ws k) (placeOf f ws k) ≡ firstNumber (itemReasons f ws vs k)
+  pub fault-number : k < itemLimit → fault f on ws vs (history f ws k) (placeOf f ws k) ≡ firstNumber (itemReasons f on ws vs k)
   fault-number l = sym (by-row _ refl ∙ if-no (leb itemLimit k) _ _ (omega (arith, tests)))
 
-  pub few : NoneOf (itemReasons f ws vs k) → k < itemLimit
+  pub few : NoneOf (itemReasons f on ws vs k) → k < itemLimit
   unfolding itemReasons any
   few u = omega (arith, tests, simp neither at u .0)
 
   -- no item has the number 0 for a refusal
-  pub some-number : {n : ℕ} → FirstOf (itemReasons f ws vs k) n → n ≢ noFault
+  pub some-number : {n : ℕ} → FirstOf (itemReasons f on ws vs k) n → n ≢ noFault
   unfolding itemReasons
   some-number s = every-first (λ n. n ≢ noFault) (omega arith) s
 
 -- ---- the audit along the reasons
 
-module _ (f : Format) (ws vs : List ℕ) (k : ℕ) where
+module _ (f : Format) (on : Eligibility) (ws vs : List ℕ) (k : ℕ) where
   abbrev after : ℕ → Outcome
-  after = itemsFrom f ws vs
+  after = itemsFrom f on ws vs
 
   -- no reason applies to an item
-  item-passed : HeadAt f ws k → NoneOf (itemReasons f ws vs k) → after k ≡ after (suc k)
+  item-passed : HeadAt f ws k → NoneOf (itemReasons f on ws vs k) → after k ≡ after (suc k)
   item-passed (there, head) u =
-      let small = few f ws vs k u in
-      items-passed f ws vs k there head small (fault-number f ws vs k small ∙ none-number _ u)
+      let small = few f on ws vs k u in
+      items-passed f on ws vs k there head small (fault-number f on ws vs k small ∙ none-number _ u)
 
   -- a reason is the first to apply to it
-  item-refused : (n : ℕ) → HeadAt f ws k → FirstOf (itemReasons f ws vs k) n → after k ≡ refused n k
+  item-refused : (n : ℕ) → HeadAt f ws k → FirstOf (itemReasons f on ws vs k) n → after k ≡ refused n k
   item-refused n (there, head) s =
       by-cases (decLe itemLimit k)
-      (λ l. rw (sym (first-number s) ∙ full-number f ws vs k l) (items-full f ws vs k there head l))
-      (λ l. items-refused f ws vs k there head (omega arith) n (fault-number f ws vs k (omega arith) ∙ first-number s) (some-number f ws vs k s))
+      (λ l. rw (sym (first-number s) ∙ full-number f on ws vs k l) (items-full f on ws vs k there head l))
+      (λ l. items-refused f on ws vs k there head (omega arith) n (fault-number f on ws vs k (omega arith) ∙ first-number s) (some-number f on ws vs k s))
 
   -- at the closing word
   closing-number : closing f ws vs (history f ws k) (placeOf f ws k)
@@ -89,57 +90,60 @@ module _ (f : Format) (ws vs : List ℕ) (k : ℕ) where
   unfolding closingReasons
   closing-refused n (there, last) s =
       let some = every-first (λ m. m ≢ noFault) (omega arith) s in
-      items-closing f ws vs k there last ∙ closing-number
+      items-closing f on ws vs k there last ∙ closing-number
       ∙ rw (first-number s) (judged-refused f ws vs n (history f ws k) _ some ∙ rw (length-history f ws k))
 
   closing-accepted : ClosesAt f ws k → NoneOf (closingReasons f ws vs k) → after k ≡ accepted (history f ws k)
   unfolding judged
-  closing-accepted (there, last) u = items-closing f ws vs k there last ∙ closing-number ∙ rw (none-number _ u)
+  closing-accepted (there, last) u = items-closing f on ws vs k there last ∙ closing-number ∙ rw (none-number _ u)
 
-module _ (f : Format) (ws vs : List ℕ) (index ballots : ℕ) where
+module _ (f : Format) (ws vs roll : List ℕ) (index ballots : ℕ) where
   -- before the items
   startAnswer : ℕ → Outcome → Outcome
   unfolding if_then_else_
-  startAnswer n o = if eqb n noFault then o else if eqb n emptyBoard then refused emptyBoard 0 else unread n
+  startAnswer n o = if eqb n noFault then o else if eqb n badRoll then refused badRoll 0 else if eqb n emptyBoard then refused emptyBoard 0 else unread n
 
-  start-number : audit f ws vs index ballots ≡ startAnswer (firstNumber (startReasons ws index ballots)) (items f ws vs itemLimit [] 0)
+  start-number : audit f ws vs roll index ballots ≡ startAnswer (firstNumber (startReasons ws roll index ballots)) (items f (onRoll roll) ws vs itemLimit [] 0)
   unfolding audit startAnswer startReasons firstNumber
   start-number =
       by-test (isTooLarge ws) (λ q. rw q)
       (λ q. rw q (by-test (isShort index ballots) (λ s. rw s)
-      (λ s. rw s (by-test (isEmpty ws) (λ t. rw t) (λ t. rw t)))))
+      (λ s. rw s (by-test (isBadRoll roll) (λ b. rw b)
+      (λ b. rw b (by-test (isEmpty ws) (λ t. rw t) (λ t. rw t)))))))
 
   -- the first k items pass
-  reached : (k : ℕ) → Reached f ws vs index ballots k → audit f ws vs index ballots ≡ itemsFrom f ws vs k
+  reached : (k : ℕ) → Reached f ws vs roll index ballots k → audit f ws vs roll index ballots ≡ itemsFrom f (onRoll roll) ws vs k
   unfolding startAnswer
-  reached zero r = start-number ∙ rw (none-number _ (r .started)) (items-start f ws vs)
+  reached zero r = start-number ∙ rw (none-number _ (r .started)) (items-start f (onRoll roll) ws vs)
   reached (suc k) r =
       let last = r .passed k (omega arith) in
-      let before : Reached f ws vs index ballots k = record { started = r .started; passed = λ j l. r .passed j (omega arith) } in
-      reached k before ∙ item-passed f ws vs k (last .0) (last .1)
+      let before : Reached f ws vs roll index ballots k = record { started = r .started; passed = λ j l. r .passed j (omega arith) } in
+      reached k before ∙ item-passed f (onRoll roll) ws vs k (last .0) (last .1)
 
-  answered : {o : Outcome} → Answers f ws vs index ballots o → audit f ws vs index ballots ≡ o
+  answered : {o : Outcome} → Answers f ws vs roll index ballots o → audit f ws vs roll index ballots ≡ o
   unfolding startAnswer startReasons
-  answered (atStart n s other) =
+  answered (atStart n s bad other) =
       let some = every-first (λ m. m ≢ noFault) (omega arith) s in
-      start-number ∙ rw (first-number s) (if-no (eqb n noFault) _ _ (omega (arith, tests)) ∙ if-no (eqb n emptyBoard) _ _ (omega (arith, tests)))
+      start-number ∙ rw (first-number s) (if-no (eqb n noFault) _ _ (omega (arith, tests))
+      ∙ if-no (eqb n badRoll) _ _ (omega (arith, tests)) ∙ if-no (eqb n emptyBoard) _ _ (omega (arith, tests)))
+  answered (atRoll s) = start-number ∙ rw (first-number s)
   answered (atEmpty s) = start-number ∙ rw (first-number s)
-  answered (atEnd k r end) = reached k r ∙ items-ended f ws vs k end
-  answered (atItem n k r head s) = reached k r ∙ item-refused f ws vs k n head s
-  answered (atClosing n k r last s) = reached k r ∙ closing-refused f ws vs k n last s
-  answered (acceptance k r last u) = reached k r ∙ closing-accepted f ws vs k last u
+  answered (atEnd k r end) = reached k r ∙ items-ended f (onRoll roll) ws vs k end
+  answered (atItem n k r head s) = reached k r ∙ item-refused f (onRoll roll) ws vs k n head s
+  answered (atClosing n k r last s) = reached k r ∙ closing-refused f (onRoll roll) ws vs k n last s
+  answered (acceptance k r last u) = reached k r ∙ closing-accepted f (onRoll roll) ws vs k last u
 
   abbrev Answered : Type 0
-  Answered = (o : Outcome) × Answers f ws vs index ballots o
+  Answered = (o : Outcome) × Answers f ws vs roll index ballots o
 
-  further : (k : ℕ) → Reached f ws vs index ballots k → HeadAt f ws k → NoneOf (itemReasons f ws vs k) → Reached f ws vs index ballots (suc k)
+  further : (k : ℕ) → Reached f ws vs roll index ballots k → HeadAt f ws k → NoneOf (itemReasons f (onRoll roll) ws vs k) → Reached f ws vs roll index ballots (suc k)
   further k r head u = record {
     started = r .started;
     passed = λ j l. by-cases (decLe (suc j) k) (λ m. r .passed j m) (λ m. let same : j ≡ k = omega arith in rw same (head, u));
   }
 
   -- behind the first k items there is an answer, or another item that passes
-  by-word : (k : ℕ) → Reached f ws vs index ballots k → (HeadAt f ws k → NoneOf (itemReasons f ws vs k) → Answered) → Answered
+  by-word : (k : ℕ) → Reached f ws vs roll index ballots k → (HeadAt f ws k → NoneOf (itemReasons f (onRoll roll) ws vs k) → Answered) → Answered
   by-word k r next =
       by-cases (decLe (length ws) (placeOf f ws k)) (λ end. (refused truncated k, atEnd k r end))
       λ l.
@@ -148,27 +152,29 @@ module _ (f : Format) (ws vs : List ℕ) (index ballots : ℕ) where
       (λ q. by-first (closingReasons f ws vs k)
       (λ u. (accepted (history f ws k), acceptance k r (there, passes q) u))
       (λ n s. (refused n k, atClosing n k r (there, passes q) s)))
-      (λ q. by-first (itemReasons f ws vs k) (next (there, rw q tt)) (λ n s. (refused n k, atItem n k r (there, rw q tt) s)))
+      (λ q. by-first (itemReasons f (onRoll roll) ws vs k) (next (there, rw q tt)) (λ n s. (refused n k, atItem n k r (there, rw q tt) s)))
 
   -- where m more items are allowed
-  by-items : (m k : ℕ) → m + k ≡ itemLimit → Reached f ws vs index ballots k → Answered
-  by-items zero k e r = by-word k r (λ head u. absurd (omega (arith, few f ws vs k u)))
+  by-items : (m k : ℕ) → m + k ≡ itemLimit → Reached f ws vs roll index ballots k → Answered
+  by-items zero k e r = by-word k r (λ head u. absurd (omega (arith, few f (onRoll roll) ws vs k u)))
   by-items (suc m) k e r = by-word k r (λ head u. by-items m (suc k) (omega arith) (further k r head u))
 
   some-answer : Answered
   some-answer =
-      by-first (startReasons ws index ballots)
+      by-first (startReasons ws roll index ballots)
       (λ u. by-items itemLimit 0 refl (record { started = u; passed = λ j l. absurd (not-suc-le-zero l) }))
-      λ n s. by-test (eqb n emptyBoard)
+      λ n s. by-test (eqb n badRoll)
+      (λ q. (refused badRoll 0, atRoll (rw (eqb-true n badRoll q) at s)))
+      λ b. by-test (eqb n emptyBoard)
       (λ q. (refused emptyBoard 0, atEmpty (rw (eqb-true n emptyBoard q) at s)))
-      (λ q. (unread n, atStart n s (eqb-false n emptyBoard q)))
+      (λ q. (unread n, atStart n s (eqb-false n badRoll b) (eqb-false n emptyBoard q)))
 
   -- the audit's outcome is the one for which there is a reason
-  pub answers : (o : Outcome) → (audit f ws vs index ballots ≡ o) ↔ Answers f ws vs index ballots o
+  pub answers : (o : Outcome) → (audit f ws vs roll index ballots ≡ o) ↔ Answers f ws vs roll index ballots o
   answers o =
       let (p, a) = some-answer in
-      (λ e. subst (Answers f ws vs index ballots) (sym (answered a) ∙ e) a, answered)
+      (λ e. subst (Answers f ws vs roll index ballots) (sym (answered a) ∙ e) a, answered)
 
   -- there is one, and no other
-  pub one-answer : (o : Outcome) × Answers f ws vs index ballots o × ((p : Outcome) → Answers f ws vs index ballots p → p ≡ o)
-  one-answer = (audit f ws vs index ballots, answers _ .0 refl, λ p a. sym (answered a))
+  pub one-answer : (o : Outcome) × Answers f ws vs roll index ballots o × ((p : Outcome) → Answers f ws vs roll index ballots p → p ≡ o)
+  one-answer = (audit f ws vs roll index ballots, answers _ .0 refl, λ p a. sym (answered a))

@@ -18,6 +18,7 @@ use Rattle.model.specs.Item.{code}
 use Rattle.model.specs.Types.{inSession}
 use Rattle.model.specs.History.{History, Entry, absent, entry, itemNo, typed, main, mainItem, mainItems, mainNumber, closer}
 use Rattle.model.specs.Counted.{Vote, voteOf, votesIn, sameVoter, counted, voters, LastCast}
+use Rattle.model.specs.Roll.{Eligibility}
 use Rattle.model.specs.Audit.{indexRow}
 use Rattle.model.specs.Report.{placeColumn, parentColumn, sessionColumn, mainsColumn, closerColumn, rowWord, numberWord, indexRowOf, indexRows, filled}
 use Rattle.model.specs.Sound.{Passed}
@@ -64,7 +65,7 @@ module _ (h : History) where
       rw (votes-cast h e es cast) (or-left (p (voteOf h e)) _ (rw here at t)))
       (λ n. among-more p e es (cast-among p (suc j) es (turns h j e es q .after) d (omega arith) m c t))
 
-  module _ {f : Format} {ws vs : List ℕ} (b : Passed f ws vs h) where
+  module _ {f : Format} {on : Eligibility} {ws vs : List ℕ} (b : Passed f on ws vs h) where
     -- a cast with no later one of its voter
     last-cast : (j : ℕ) (e : Entry) (es : List Entry) → drop j h ≡ e ∷ es → typed castType e ≡ true
         → any (sameVoter (voteOf h e)) (votesIn h es) ≡ false → LastCast h (voteOf h e) (suc j)

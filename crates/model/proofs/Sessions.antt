@@ -14,6 +14,7 @@ use Rattle.model.specs.Item.{Item, code}
 use Rattle.model.specs.Types.{ParentRule, zeros, latestConfig, ofType, table, inSession}
 use Rattle.model.specs.History.{History, Entry, entry, itemNo, last, config, parentNumber, entryOf}
 use Rattle.model.specs.Links.{parentOk}
+use Rattle.model.specs.Roll.{Eligibility}
 use Rattle.model.specs.Sound.{Meets, Passed, none, next}
 use Rattle.model.proofs.Tests.{or-left, implies-iff, facts}
 use Rattle.model.proofs.Lists.{Every, every, every-snoc}
@@ -38,7 +39,7 @@ config-outside : (c : ℕ) → c ≤ 6 → Outside c
 unfolding inSession
 config-outside c l = rw (lt-leb 16 c (omega arith), lt-leb 48 c (omega arith)) tt
 
-module _ {f : Format} {h : History} {v : List ℕ} {i : Item} (m : Meets f h v i) (o : Orderly f h) where
+module _ {f : Format} {on : Eligibility} {h : History} {v : List ℕ} {i : Item} (m : Meets f on h v i) (o : Orderly f h) where
   -- the parent has none either
   rule-outside : (r : ParentRule) → T (parentOk f h r i) → T (not (asksNone r)) → T (not (asks inSession r)) → 1 ≤ length h
       → Outside (code (itemNo h (parentNumber h i)))
@@ -64,10 +65,10 @@ module _ {f : Format} {h : History} {v : List ℕ} {i : Item} (m : Meets f h v i
       (λ q s. absurd (rw (eqb-true (code i) 16 s) at t))
       (λ q s. rw (session-up h i q s) (every-entry None h (parentNumber h i) all (parent-some m) (parent-bound h i q) (parent-outside t q)))
 
-no-sessions : {f : Format} {ws vs : List ℕ} {h : History} → Passed f ws vs h → Every None h
+no-sessions : {f : Format} {on : Eligibility} {ws vs : List ℕ} {h : History} → Passed f on ws vs h → Every None h
 no-sessions none = tt
 no-sessions (next us ts g v i b m) = every-snoc None g (entryOf g (length us) i) (no-sessions b) (none-new m (orderly b) (length us) (no-sessions b))
 
-pub no-session : {f : Format} {ws vs : List ℕ} {h : History} → Passed f ws vs h → (k : ℕ) → 1 ≤ k → k ≤ length h
+pub no-session : {f : Format} {on : Eligibility} {ws vs : List ℕ} {h : History} → Passed f on ws vs h → (k : ℕ) → 1 ≤ k → k ≤ length h
     → T (not (inSession (code (itemNo h k)))) → entry h k .session ≡ 0
 no-session {h} p k one all = every-entry None h k (no-sessions p) one all

@@ -13,6 +13,7 @@ use lib.Seq.{take-all, take-append-le}
 use Rattle.model.specs.Format.{Format}
 use Rattle.model.specs.Item.{Item, itemAt, wordsOf}
 use Rattle.model.specs.History.{History, entry, entryOf, placeOf, history}
+use Rattle.model.specs.Roll.{Eligibility, onRoll}
 use Rattle.model.specs.Audit.{refused, accepted, audit}
 use Rattle.model.specs.Sound.{Passed, next, Sound, Beginning}
 use Rattle.model.proofs.Numbers.{entry-append, entry-snoc}
@@ -57,7 +58,7 @@ module _ (f : Format) (ws : List ℕ) where
 -- ---- what is passed is the unchecked history
 
 -- whatever words stand behind
-pub passed-history : {f : Format} {words vs : List ℕ} {h : History} → Passed f words vs h → (rest : List ℕ)
+pub passed-history : {f : Format} {on : Eligibility} {words vs : List ℕ} {h : History} → Passed f on words vs h → (rest : List ℕ)
     → (h ≡ history f (words ++ rest) (length h)) × (placeOf f (words ++ rest) (length h) ≡ length words)
 unfolding history placeOf itemAt
 passed-history Passed.none rest = (refl, refl)
@@ -70,19 +71,19 @@ passed-history {f} (next words vs h v i p m) rest =
     rw (append-assoc words (wordsOf i) rest, size)
     (rw (← same, place, read), rw (place, head, ← length-words f i (m .shaped), length-append words (wordsOf i)))
 
-pub beginning-history : {f : Format} {ws vs : List ℕ} {h : History} → Beginning f ws vs h → h ≡ history f ws (length h)
+pub beginning-history : {f : Format} {on : Eligibility} {ws vs : List ℕ} {h : History} → Beginning f on ws vs h → h ≡ history f ws (length h)
 beginning-history b = rw (b .ofWords) (passed-history (b .passed) _ .0)
 
-pub sound-history : {f : Format} {ws vs : List ℕ} {h : History} → Sound f ws vs h → h ≡ history f ws (length h)
+pub sound-history : {f : Format} {ws vs roll : List ℕ} {h : History} → Sound f ws vs roll h → h ≡ history f ws (length h)
 sound-history s = rw (s .closed) (passed-history (s .passed) _ .0)
 
-pub accepted-history : (f : Format) (ws vs : List ℕ) (index ballots : ℕ) (h : History) → audit f ws vs index ballots ≡ accepted h
+pub accepted-history : (f : Format) (ws vs roll : List ℕ) (index ballots : ℕ) (h : History) → audit f ws vs roll index ballots ≡ accepted h
     → h ≡ history f ws (length h)
-accepted-history f ws vs index ballots h e = sound-history (accepted↔sound f ws vs index ballots h .0 e .0)
+accepted-history f ws vs roll index ballots h e = sound-history (accepted↔sound f ws vs roll index ballots h .0 e .0)
 
 -- the items that a refusal counts are the first ones, and meet the rules
-pub refused-history : (f : Format) (ws vs : List ℕ) (index ballots n k : ℕ) → audit f ws vs index ballots ≡ refused n k
-    → Beginning f ws vs (history f ws k)
-refused-history f ws vs index ballots n k e =
-    let s = refused-stopped f ws vs index ballots n k e in
+pub refused-history : (f : Format) (ws vs roll : List ℕ) (index ballots n k : ℕ) → audit f ws vs roll index ballots ≡ refused n k
+    → Beginning f (onRoll roll) ws vs (history f ws k)
+refused-history f ws vs roll index ballots n k e =
+    let s = refused-stopped f ws vs roll index ballots n k e in
     rw (beginning-history (s .beginning), s .count) at (s .beginning)

@@ -1,7 +1,8 @@
--- The auditing program: which words it makes of the bytes of two files, which sizes it refuses, and the bytes that it prints.
--- Paper: "The auditing program"; "Words on the shelf" (files). Assumes nothing.
+-- The auditing program: which words it makes of the bytes of three files, which sizes it refuses, and the bytes that it prints.
+-- Paper: "The auditing program"; "Words on the shelf" (files); request (i) ("the program reads roll.words by the rules of its other files").
+-- Assumes nothing.
 use Prim.Native.Nat.{ℕ, zero, suc, _+_, _-_, _*_, _/_, _%_, _^_}
-use mathlib.Core.Bool.{Bool, not, _||_}
+use mathlib.Core.Bool.{Bool, not, _&&_}
 use mathlib.Core.List.{List, [], _∷_, _++_}
 use lib.ListN.{length}
 use lib.Dec.{eqb, ltb}
@@ -41,15 +42,23 @@ programItems = 381
 abbrev pub verdictLimit : ℕ
 verdictLimit = 3430
 
+-- "more than 4,096 words are a bad roll", so roll words past 4,097 are only counted
+abbrev pub rollWords : ℕ
+rollWords = 4097
+
 abbrev pub isWhole : ℕ → Bool
 isWhole bytes = eqb (bytes % bytesPerWord) 0
 
+-- the byte counts of all three files are multiples of 4
+abbrev pub areWhole : (board verdicts roll : ℕ) → Bool
+areWhole board verdicts roll = isWhole board && isWhole verdicts && isWhole roll
+
 -- the refusal of the files' sizes, from their byte counts. "if either file's byte count isn't a multiple of 4, it is refused as 4", before
 -- "a board of at most 16,384 words (more is refused as 1)"
-unfoldable pub sizeFault : ℕ → ℕ → ℕ
+unfoldable pub sizeFault : (board verdicts roll : ℕ) → ℕ
 unfolding if_then_else_
-sizeFault board verdicts =
-    if not (isWhole board) || not (isWhole verdicts) then truncated
+sizeFault board verdicts roll =
+    if not (areWhole board verdicts roll) then truncated
     else if ltb programLimit (board / bytesPerWord) then tooLarge
     else noFault
 
@@ -58,13 +67,14 @@ unfoldable pub sized : ℕ → Outcome → Outcome
 sized zero o = o
 sized (suc n) o = unread (suc n)
 
--- the program's outcome from the byte counts of both files, the board's words ws and the verdict words vs
-abbrev pub programOutcome : Format → ℕ → ℕ → List ℕ → List ℕ → Outcome
-programOutcome f board verdicts ws vs = sized (sizeFault board verdicts) (audit f ws vs indexNeed ballotNeed)
+-- the program's outcome from the byte counts of the files, the board's words ws, the verdict words vs and the roll's words rs
+abbrev pub programOutcome : Format → (board verdicts roll : ℕ) → (ws vs rs : List ℕ) → Outcome
+programOutcome f board verdicts roll ws vs rs = sized (sizeFault board verdicts roll) (audit f ws vs rs indexNeed ballotNeed)
 
--- from the bytes of both files
-unfoldable pub filesOutcome : Format → List ℕ → List ℕ → Outcome
-filesOutcome f board verdicts = programOutcome f (length board) (length verdicts) (fromBytes board) (fromBytes verdicts)
+-- from the bytes of the files
+unfoldable pub filesOutcome : Format → (board verdicts roll : List ℕ) → Outcome
+filesOutcome f board verdicts roll =
+    programOutcome f (length board) (length verdicts) (length roll) (fromBytes board) (fromBytes verdicts) (fromBytes roll)
 
 -- ---- what it prints. "Numbers are decimal, spaces single, lines ended by byte 10."
 
@@ -131,6 +141,6 @@ textOf (unread n) = refusedLine n 0
 textOf (refused n k) = refusedLine n k
 textOf (accepted h) = acceptedLine (length h) (count main h) (length (counted h)) (totalWeight (counted h)) ++ rowLines (ballotRows (counted h))
 
--- what the program prints for the bytes of board.words and verdicts.words
-abbrev pub printed : Format → List ℕ → List ℕ → List ℕ
-printed f board verdicts = textOf (filesOutcome f board verdicts)
+-- what the program prints for the bytes of board.words, verdicts.words and roll.words
+abbrev pub printed : Format → (board verdicts roll : List ℕ) → List ℕ
+printed f board verdicts roll = textOf (filesOutcome f board verdicts roll)

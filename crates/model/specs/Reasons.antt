@@ -10,7 +10,7 @@ use lib.ListN.{length, getD}
 use lib.Dec.{T, leb, ltb}
 use Rattle.model.specs.Lists.{any}
 use Rattle.model.specs.Words.{countOf, isClosing}
-use Rattle.model.specs.Refusal.{tooLarge, shortTable, emptyBoard, truncated, unknownType, wrongCount, wrongAddress, wrongPrevious, wrongParent, earlierTime, outOfPhase, duplicate, badContent, noVerdict, wrongKey, badSignature, badClosing}
+use Rattle.model.specs.Refusal.{tooLarge, shortTable, emptyBoard, truncated, unknownType, wrongCount, wrongAddress, wrongPrevious, wrongParent, earlierTime, outOfPhase, duplicate, badContent, noVerdict, wrongKey, badSignature, badClosing, badRoll, notOnRoll}
 use Rattle.model.specs.Format.{Format}
 use Rattle.model.specs.Item.{itemAt, behind}
 use Rattle.model.specs.Types.{Row, rowOf, fits}
@@ -19,6 +19,7 @@ use Rattle.model.specs.Links.{addressOk, previousOk, parentOk, timeOk}
 use Rattle.model.specs.Phase.{phaseOk}
 use Rattle.model.specs.Only.{onlyOk}
 use Rattle.model.specs.Content.{contentOk}
+use Rattle.model.specs.Roll.{Eligibility, isBadRoll, onRoll, onRollOk}
 use Rattle.model.specs.Keys.{keyOf, verdictOk, keyOk, signatureOk}
 use Rattle.model.specs.Audit.{Outcome, unread, refused, accepted, itemLimit, isTooLarge, isShort, isEmpty, closingOk, verdictOf}
 
@@ -48,11 +49,12 @@ pub record FirstOf (rs : List Reason) (n : ℕ) : Type 0 where
   pub applies : T (reason .applies)
   pub number : reason .number ≡ n
 
--- "Word limit, 2 and 3 come first."
-unfoldable pub startReasons : List ℕ → ℕ → ℕ → List Reason
-startReasons ws index ballots =
+-- "Word limit, 2 and 3 come first"; 20 "comes right after 2"
+unfoldable pub startReasons : (board roll : List ℕ) → (index ballots : ℕ) → List Reason
+startReasons ws roll index ballots =
     tooLarge when isTooLarge ws
     ∷ shortTable when isShort index ballots
+    ∷ badRoll when isBadRoll roll
     ∷ emptyBoard when isEmpty ws
     ∷ []
 
@@ -76,60 +78,62 @@ module _ (f : Format) (ws : List ℕ) (k : ℕ) where
   abbrev pub HeadAt : Type 0
   HeadAt = (placeOf f ws k < length ws) × T (not (isClosing (getD ws (placeOf f ws k) 0)))
 
-module _ (f : Format) (ws vs : List ℕ) (k : ℕ) where
-  -- "item by item: the item limit, 5, 6, 4, then 7 to 16 in order", of the item there. Each condition stands alone: what it asks of an item
-  -- that is not listed or not whole does not matter, since 5 or 4 comes first.
-  unfoldable pub itemReasons : List Reason
-  itemReasons =
-      let p = placeOf f ws k in
-      let w = getD ws p 0 in
-      let row = rowOf f w in
-      let h = history f ws k in
-      let i = itemAt f ws p in
-      let v = verdictOf f ws vs h in
-      tooLarge when leb itemLimit k
-      ∷ unknownType when not (listedWith (λ r. true) row)
-      ∷ wrongCount when not (listedWith (λ r. fits (r .counts) (countOf w)) row)
-      ∷ truncated when ltb (length ws) (behind f ws p)
-      ∷ wrongAddress when not (addressOk f i)
-      ∷ wrongPrevious when not (previousOk f h i)
-      ∷ wrongParent when not (listedWith (λ r. parentOk f h (r .parent) i) row)
-      ∷ earlierTime when not (timeOk h i)
-      ∷ outOfPhase when not (phaseOk h i)
-      ∷ duplicate when not (onlyOk h i)
-      ∷ badContent when not (contentOk f h i)
-      ∷ noVerdict when not (verdictOk v)
-      ∷ wrongKey when not (listedWith (λ r. keyOk v (keyOf h (r .writer) i)) row)
-      ∷ badSignature when not (signatureOk v)
-      ∷ []
+-- "item by item: the item limit, 5, 6, 4, then 7 to 16 in order", 21 "right after 13", of the item there; `on` says who may vote. Each condition
+-- stands alone: what it asks of an item that is not listed or not whole does not matter, since 5 or 4 comes first.
+unfoldable pub itemReasons : Format → Eligibility → (board verdicts : List ℕ) → ℕ → List Reason
+itemReasons f on ws vs k =
+    let p = placeOf f ws k in
+    let w = getD ws p 0 in
+    let row = rowOf f w in
+    let h = history f ws k in
+    let i = itemAt f ws p in
+    let v = verdictOf f ws vs h in
+    tooLarge when leb itemLimit k
+    ∷ unknownType when not (listedWith (λ r. true) row)
+    ∷ wrongCount when not (listedWith (λ r. fits (r .counts) (countOf w)) row)
+    ∷ truncated when ltb (length ws) (behind f ws p)
+    ∷ wrongAddress when not (addressOk f i)
+    ∷ wrongPrevious when not (previousOk f h i)
+    ∷ wrongParent when not (listedWith (λ r. parentOk f h (r .parent) i) row)
+    ∷ earlierTime when not (timeOk h i)
+    ∷ outOfPhase when not (phaseOk h i)
+    ∷ duplicate when not (onlyOk h i)
+    ∷ badContent when not (contentOk f h i)
+    ∷ notOnRoll when not (onRollOk on i)
+    ∷ noVerdict when not (verdictOk v)
+    ∷ wrongKey when not (listedWith (λ r. keyOk v (keyOf h (r .writer) i)) row)
+    ∷ badSignature when not (signatureOk v)
+    ∷ []
 
-  -- "At the closing word: 18, then 17"; request (viii) removed 17
-  unfoldable pub closingReasons : List Reason
-  closingReasons =
-      badClosing when not (closingOk ws vs (history f ws k) (placeOf f ws k))
-      ∷ []
+-- "At the closing word: 18, then 17"; request (viii) removed 17
+unfoldable pub closingReasons : Format → (board verdicts : List ℕ) → ℕ → List Reason
+closingReasons f ws vs k =
+    badClosing when not (closingOk ws vs (history f ws k) (placeOf f ws k))
+    ∷ []
 
 -- the first k items pass: each has a head, and no reason applies to it
-abbrev pub PassedFirst : Format → List ℕ → List ℕ → ℕ → Type 0
-PassedFirst f ws vs k = (j : ℕ) → j < k → HeadAt f ws j × NoneOf (itemReasons f ws vs j)
+abbrev pub PassedFirst : Format → Eligibility → List ℕ → List ℕ → ℕ → Type 0
+PassedFirst f on ws vs k = (j : ℕ) → j < k → HeadAt f ws j × NoneOf (itemReasons f on ws vs j)
 
 -- ---- the answers, with so many words in the index table and in the ballot table
 
-module _ (f : Format) (ws vs : List ℕ) (index ballots : ℕ) where
+module _ (f : Format) (ws vs roll : List ℕ) (index ballots : ℕ) where
   -- there was nothing to refuse before the items, and the first k of them pass
   pub record Reached (k : ℕ) : Type 0 where
-    pub started : NoneOf (startReasons ws index ballots)
-    pub passed : PassedFirst f ws vs k
+    pub started : NoneOf (startReasons ws roll index ballots)
+    pub passed : PassedFirst f (onRoll roll) ws vs k
 
   pub data Answers : Outcome → Type 0 where
     -- 1's word limit, or 2
-    atStart : (n : ℕ) → FirstOf (startReasons ws index ballots) n → n ≢ emptyBoard → Answers (unread n)
+    atStart : (n : ℕ) → FirstOf (startReasons ws roll index ballots) n → n ≢ badRoll → n ≢ emptyBoard → Answers (unread n)
+    -- 20
+    atRoll : FirstOf (startReasons ws roll index ballots) badRoll → Answers (refused badRoll 0)
     -- 3
-    atEmpty : FirstOf (startReasons ws index ballots) emptyBoard → Answers (refused emptyBoard 0)
+    atEmpty : FirstOf (startReasons ws roll index ballots) emptyBoard → Answers (refused emptyBoard 0)
     -- 4, "no closing word"
     atEnd : (k : ℕ) → Reached k → EndsAt f ws k → Answers (refused truncated k)
-    -- 1's item limit, 5, 6, 4, or 7 to 16
-    atItem : (n k : ℕ) → Reached k → HeadAt f ws k → FirstOf (itemReasons f ws vs k) n → Answers (refused n k)
+    -- 1's item limit, 5, 6, 4, 7 to 16, or 21
+    atItem : (n k : ℕ) → Reached k → HeadAt f ws k → FirstOf (itemReasons f (onRoll roll) ws vs k) n → Answers (refused n k)
     -- 18
     atClosing : (n k : ℕ) → Reached k → ClosesAt f ws k → FirstOf (closingReasons f ws vs k) n → Answers (refused n k)
     -- "Acceptance gives 0"

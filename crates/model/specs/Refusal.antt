@@ -81,6 +81,14 @@ badClosing = 18
 abbrev pub noSuchItem : ℕ
 noSuchItem = 19
 
+-- 20 bad roll: "odd word count, too many pairs, or not rising"; it "comes right after 2" (request (i))
+abbrev pub badRoll : ℕ
+badRoll = 20
+
+-- 21 not on the roll: it "comes right after 13, for sessions only" (request (i))
+abbrev pub notOnRoll : ℕ
+notOnRoll = 21
+
 -- ---- which of them an audit gives
 
 -- before anything is read or written
@@ -90,5 +98,5 @@ startRefusals = tooLarge ∷ shortTable ∷ []
 -- with the items passed so far
 abbrev pub readRefusals : List ℕ
 readRefusals =
-    tooLarge ∷ emptyBoard ∷ truncated ∷ unknownType ∷ wrongCount ∷ wrongAddress ∷ wrongPrevious ∷ wrongParent ∷ earlierTime ∷ outOfPhase
-    ∷ duplicate ∷ badContent ∷ noVerdict ∷ wrongKey ∷ badSignature ∷ badClosing ∷ []
+    tooLarge ∷ badRoll ∷ emptyBoard ∷ truncated ∷ unknownType ∷ wrongCount ∷ wrongAddress ∷ wrongPrevious ∷ wrongParent ∷ earlierTime
+    ∷ outOfPhase ∷ duplicate ∷ badContent ∷ notOnRoll ∷ noVerdict ∷ wrongKey ∷ badSignature ∷ badClosing ∷ []
