@@ -21,6 +21,7 @@ use Rattle.refusal.specs.Number.{numberOf}
 use Rattle.refusal.specs.declared.Refusal.{Refusal}
 use Rattle.format.specs.Base.{base}
 use Rattle.index.specs.Kept.{before, Kept}
+use Rattle.index.proofs.Items.{passed-anyone}
 use Rattle.tally.specs.Tallied.{Tallied}
 use Rattle.refusal.proofs.Laws.{number-some}
 use Rattle.report.specs.declared.Report.{Report}
@@ -30,7 +31,7 @@ use Rattle.report.specs.Reported.{answered, reported}
 use Rattle.audit.proofs.Whole.{Audited, outcome, refused-number, accepted-number}
 
 -- a sound board, and a table with the rows of its items
-sound-kept : {board verdicts : List ℕ} {h : History} → Sound base board verdicts h → (i : List ℕ) → i ≡ filled (length i) (indexRows h 0 h)
+sound-kept : {board verdicts roll : List ℕ} {h : History} → Sound base board verdicts roll h → (i : List ℕ) → i ≡ filled (length i) (indexRows h 0 h)
     → indexNeed ≤ length i → Kept board i (length h)
 sound-kept {board} {verdicts} {h} s i rows room =
     let closing : List ℕ = closingWord (length h) ∷ [] in
@@ -41,7 +42,7 @@ sound-kept {board} {verdicts} {h} s i rows room =
     record {
       rows = rw same rows;
       verdicts = verdicts;
-      passed = rw (place, words, same) (s .passed);
+      passed = rw (place, words, same) (passed-anyone (s .passed));
       within = omega arith;
       few = s .few;
       words = s .short;
@@ -53,40 +54,40 @@ pub data RefusedAs (o : Outcome) (n k : ℕ) : Type 0 where
   unchanged : o ≡ unread n → k ≡ 0 → RefusedAs o n k
   cleared : o ≡ refused n k → RefusedAs o n k
 
-module _ (board verdicts index ballots : List ℕ) (r : Report) {i b : List ℕ} (a : Audited board verdicts index ballots r i b) where
+module _ (board verdicts roll index ballots : List ℕ) (r : Report) {i b : List ℕ} (a : Audited board verdicts roll index ballots r i b) where
   -- ---- acceptance
 
   module _ {items mains n weight : ℕ} (answer : r .answer ≡ Accepted items mains n weight) where
-    accepted-is : (o : Outcome) → outcome board verdicts index ballots ≡ o → o ≡ accepted (before board items)
+    accepted-is : (o : Outcome) → outcome board verdicts roll index ballots ≡ o → o ≡ accepted (before board items)
     unfolding reportOf
     accepted-is (unread m) e =
         let number = sym (accepted-number r answer) ∙ ap (λ (t : model.Report). t .number) (rw e at (a .0)) in
-        let some = unread-some base board verdicts (length index) (length ballots) m e in
+        let some = unread-some base board verdicts roll (length index) (length ballots) m e in
         absurd (omega arith)
     accepted-is (refused m k) e =
         let number = sym (accepted-number r answer) ∙ ap (λ (t : model.Report). t .number) (rw e at (a .0)) in
-        let some = refused-some base board verdicts (length index) (length ballots) m k e in
+        let some = refused-some base board verdicts roll (length index) (length ballots) m k e in
         absurd (omega arith)
     accepted-is (accepted h) e =
-        let sound : Sound base board verdicts h = accepted↔sound base board verdicts (length index) (length ballots) h .0 e .0 in
+        let sound : Sound base board verdicts roll h = accepted↔sound base board verdicts roll (length index) (length ballots) h .0 e .0 in
         let same : items ≡ length h =
         sym (ap (λ (x : Answer). answered x (r .end) .items) answer) ∙ ap (λ (t : model.Report). t .items) (rw e at (a .0)) in
         ap accepted (sound-history sound ∙ ap (before board) (sym same))
 
-    pub accepted-outcome : outcome board verdicts index ballots ≡ accepted (before board items)
-    accepted-outcome = accepted-is (outcome board verdicts index ballots) refl
+    pub accepted-outcome : outcome board verdicts roll index ballots ≡ accepted (before board items)
+    accepted-outcome = accepted-is (outcome board verdicts roll index ballots) refl
 
     -- "a board is accepted if and only if it is sound", and the tables are long enough
-    accepted-all : Sound base board verdicts (before board items) × (indexNeed ≤ length index) × (ballotNeed ≤ length ballots)
-    accepted-all = accepted↔sound base board verdicts (length index) (length ballots) (before board items) .0 accepted-outcome
+    accepted-all : Sound base board verdicts roll (before board items) × (indexNeed ≤ length index) × (ballotNeed ≤ length ballots)
+    accepted-all = accepted↔sound base board verdicts roll (length index) (length ballots) (before board items) .0 accepted-outcome
 
-    pub accepted-sound : Sound base board verdicts (before board items)
+    pub accepted-sound : Sound base board verdicts roll (before board items)
     accepted-sound = accepted-all .0
 
     -- so do its index rows, and its ballot rows
     length-after : (length i ≡ length index) × (length b ≡ length ballots)
     length-after =
-        let keep = tables-keep base board verdicts index ballots in
+        let keep = tables-keep base board verdicts roll index ballots in
         (ap length (a .1 .0) ∙ keep .0, ap length (a .1 .1) ∙ keep .1)
 
     items-are : length (before board items) ≡ items
@@ -129,7 +130,7 @@ module _ (board verdicts index ballots : List ℕ) (r : Report) {i b : List ℕ}
   -- ---- a refusal
 
   module _ {x : Refusal} {k : ℕ} (answer : r .answer ≡ Refused x k) where
-    refused-is : (o : Outcome) → outcome board verdicts index ballots ≡ o → RefusedAs o (numberOf x) k
+    refused-is : (o : Outcome) → outcome board verdicts roll index ballots ≡ o → RefusedAs o (numberOf x) k
     unfolding reportOf
     refused-is (unread m) e =
         let number = sym (refused-number r answer) ∙ ap (λ (t : model.Report). t .number) (rw e at (a .0)) in
@@ -143,5 +144,5 @@ module _ (board verdicts index ballots : List ℕ) (r : Report) {i b : List ℕ}
         let number = sym (refused-number r answer) ∙ ap (λ (t : model.Report). t .number) (rw e at (a .0)) in
         absurd (omega (arith, number-some x))
 
-    pub refused-outcome : RefusedAs (outcome board verdicts index ballots) (numberOf x) k
-    refused-outcome = refused-is (outcome board verdicts index ballots) refl
+    pub refused-outcome : RefusedAs (outcome board verdicts roll index ballots) (numberOf x) k
+    refused-outcome = refused-is (outcome board verdicts roll index ballots) refl

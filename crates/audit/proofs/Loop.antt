@@ -13,6 +13,7 @@ use Rattle.model.specs.Words.{kindOf, isClosing}
 use Rattle.model.specs.Refusal.{noFault, tooLarge, truncated}
 use Rattle.model.specs.History.{placeOf, history}
 use Rattle.model.specs.Counted.{counted}
+use Rattle.model.specs.Roll.{onRoll}
 use Rattle.model.specs.Audit.{Outcome, refused, closing, closingOk, items, itemLimit, isEmpty}
 use Rattle.model.specs.Report.{reportOf, indexRows, ballotRows, filled}
 use Rattle.model.specs.Sound.{Passed}
@@ -71,15 +72,15 @@ module _ {board index ballots : List ℕ} (sized : Sized board index ballots) wh
 
 -- ---- at the head of the loop
 
-module _ (board verdicts : List ℕ) where
+module _ (board verdicts roll : List ℕ) where
   -- the answer
   abbrev pub answer : Outcome
-  answer = items base board verdicts itemLimit [] 0
+  answer = items base (onRoll roll) board verdicts itemLimit [] 0
 
   -- the audit stands behind the first s .items items, the answer is the same from there on, and the tables keep their lengths
   pub record Going (index₀ ballots₀ parents₀ sessions₀ index ballots parents sessions : List ℕ) (s : State) : Type 0 where
     pub reached : Reached board index ballots parents sessions s
-    pub same : answer ≡ itemsFrom base board verdicts (s .items)
+    pub same : answer ≡ itemsFrom base (onRoll roll) board verdicts (s .items)
     pub index-size : length index ≡ length index₀
     pub ballots-size : length ballots ≡ length ballots₀
     pub parents-size : length parents ≡ length parents₀
@@ -96,7 +97,7 @@ module _ (board verdicts : List ℕ) where
       parents = rw none (chains .0);
       sessions = rw none (chains .1);
     };
-    same = rw none (items-start base board verdicts);
+    same = rw none (items-start base (onRoll roll) board verdicts);
     index-size = refl;
     ballots-size = refl;
     parents-size = refl;
@@ -119,7 +120,7 @@ module _ (board verdicts : List ℕ) where
     abbrev Ran : Report → List ℕ → List ℕ → Type 0
     Ran r i b = (reported r ≡ reportOf base answer) × Holds board answer i b
 
-    stopped : (o : Outcome) → itemsFrom base board verdicts (s .items) ≡ o → (r : Report) → reported r ≡ reportOf base o
+    stopped : (o : Outcome) → itemsFrom base (onRoll roll) board verdicts (s .items) ≡ o → (r : Report) → reported r ≡ reportOf base o
         → (i b : List ℕ) → Holds board o i b → Ran r i b
     stopped o e r told i b held =
         let all : answer ≡ o = g .same ∙ e in
@@ -133,7 +134,7 @@ module _ (board verdicts : List ℕ) where
 
     pub stop-ended : length board ≤ s .place → (r : Report) → reported r ≡ reportOf base (refused truncated (s .items)) → Ran r index ballots
     stop-ended l r told =
-        stopped _ (items-ended base board verdicts (s .items) (rw place-is at l)) r told index ballots (holds-here truncated)
+        stopped _ (items-ended base (onRoll roll) board verdicts (s .items) (rw place-is at l)) r told index ballots (holds-here truncated)
 
     module _ (there : s .place < length board) {head : Head} (is : head ≡ headOf (getD board (s .place) 0)) where
       kind-is : head .kind ≡ kindOf (getD board (placeOf base board (s .items)) 0)
@@ -142,7 +143,7 @@ module _ (board verdicts : List ℕ) where
       pub stop-closing : head .kind ≡ 15 → (r : Report)
           → reported r ≡ reportOf base (closing base board verdicts (before board (s .items)) (s .place)) → Ran r index ballots
       stop-closing k r told =
-          stopped _ (items-closing base board verdicts (s .items) (rw place-is at there) (eq→eqb _ _ (sym kind-is ∙ k))) r (rw place-is at told) index ballots
+          stopped _ (items-closing base (onRoll roll) board verdicts (s .items) (rw place-is at there) (eq→eqb _ _ (sym kind-is ∙ k))) r (rw place-is at told) index ballots
           (closing-holds index ballots (s .items) _ (g .reached .kept) (g .reached .tallied))
 
       module _ (head-word : head .kind ≡ 15 → ⊥) where
@@ -151,10 +152,10 @@ module _ (board verdicts : List ℕ) where
 
         pub stop-full : s .items ≡ 2048 → (r : Report) → reported r ≡ reportOf base (refused tooLarge (s .items)) → Ran r index ballots
         stop-full q r told =
-            stopped _ (items-full base board verdicts (s .items) (rw place-is at there) item-word (omega arith)) r told index ballots (holds-here tooLarge)
+            stopped _ (items-full base (onRoll roll) board verdicts (s .items) (rw place-is at there) item-word (omega arith)) r told index ballots (holds-here tooLarge)
 
         module _ (few : s .items < itemLimit) {index′ ballots′ parents′ sessions′ : List ℕ} {step : Step}
-            (stepped : Stepped board verdicts index ballots parents sessions index′ ballots′ parents′ sessions′ s step) where
+            (stepped : Stepped board verdicts roll index ballots parents sessions index′ ballots′ parents′ sessions′ s step) where
           pub stop-refused : (x : Refusal) → step .finding ≡ Fails x → (r : Report) → reported r ≡ reportOf base (refused (numberOf x) (s .items))
               → Ran r index′ ballots′
           stop-refused x q r told =
@@ -162,7 +163,7 @@ module _ (board verdicts : List ℕ) where
               let fails : numberOf x ≡ noFault → ⊥ = λ n. absurd (omega (arith, number-some x)) in
               let (stay, same-index, same-ballots, same-parents, same-sessions) = stepped .failed (λ n. fails (sym number ∙ n)) in
               rw (same-index, same-ballots)
-              (stopped _ (items-refused base board verdicts (s .items) (rw place-is at there) item-word few (numberOf x) (rw place-is at (sym (stepped .finding) ∙ number)) fails)
+              (stopped _ (items-refused base (onRoll roll) board verdicts (s .items) (rw place-is at there) item-word few (numberOf x) (rw place-is at (sym (stepped .finding) ∙ number)) fails)
               r told index ballots (holds-here (numberOf x)))
 
           pub going-on : step .finding ≡ Passes → length index′ ≡ length index → length ballots′ ≡ length ballots
@@ -173,7 +174,7 @@ module _ (board verdicts : List ℕ) where
               let (next, reached) = stepped .passed none in
               record {
                 reached = reached;
-                same = g .same ∙ items-passed base board verdicts (s .items) (rw place-is at there) item-word few (rw place-is at (sym (stepped .finding) ∙ none)) ∙ rw (next, add-one);
+                same = g .same ∙ items-passed base (onRoll roll) board verdicts (s .items) (rw place-is at there) item-word few (rw place-is at (sym (stepped .finding) ∙ none)) ∙ rw (next, add-one);
                 index-size = li ∙ g .index-size;
                 ballots-size = lb ∙ g .ballots-size;
                 parents-size = lp ∙ g .parents-size;

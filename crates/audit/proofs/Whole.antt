@@ -2,15 +2,18 @@
 use Prim.Native.Nat.{ℕ, _≤_, _<_}
 use native.Mathlib.Omega.{arith}
 use mathlib.Core.Path.{_≡_, refl, sym, ap, _∙_}
-use mathlib.Core.Bool.{true, false}
+use mathlib.Core.Bool.{true, false, not}
 use mathlib.Core.List.{List, []}
 use lib.ListN.{length, replicate, length-replicate}
+use lib.Dec.{T}
 use borrow.Author.Tests.{lt-ltb, le-ltb}
 use Rattle.model.specs.Lists.{if_then_else_}
-use Rattle.model.specs.Refusal.{noFault, tooLarge, shortTable, emptyBoard}
+use Rattle.model.specs.Refusal.{noFault, tooLarge, shortTable, emptyBoard, badRoll}
+use Rattle.model.specs.Roll.{isBadRoll, onRoll}
 use Rattle.model.specs.Audit.{Outcome, unread, refused, accepted, audit, items, itemLimit, wordLimit, indexNeed, ballotNeed, isEmpty}
 use Rattle.model.specs.Report as model
 use Rattle.model.specs.Report.{reportOf, tableAfter, indexAfter, ballotsAfter}
+use Rattle.model.proofs.Tests.{is-false, not-iff}
 use Rattle.model.proofs.Acceptance.{refused-some}
 use Rattle.model.proofs.Unchecked.{accepted-history}
 use Rattle.refusal.specs.Number.{numberOf}
@@ -40,13 +43,13 @@ refused-number r e = ap (λ (a : Answer). answered a (r .end) .number) e
 pub accepted-number : (r : Report) {items mains ballots weight : ℕ} → r .answer ≡ Accepted items mains ballots weight → reported r .number ≡ noFault
 accepted-number r e = ap (λ (a : Answer). answered a (r .end) .number) e
 
-module _ (board verdicts index ballots : List ℕ) where
+module _ (board verdicts roll index ballots : List ℕ) where
   abbrev pub outcome : Outcome
-  outcome = audit base board verdicts (length index) (length ballots)
+  outcome = audit base board verdicts roll (length index) (length ballots)
 
   -- what the items give
   abbrev answer : Outcome
-  answer = items base board verdicts itemLimit [] 0
+  answer = items base (onRoll roll) board verdicts itemLimit [] 0
 
   -- what `audit` ensures of its report and of the tables after it
   abbrev pub Audited : Report → List ℕ → List ℕ → Type 0
@@ -81,11 +84,26 @@ module _ (board verdicts index ballots : List ℕ) where
         let lb : length b ≡ length ballots = rw (eb, length-replicate) in
         (record { fewWords = sized .fewWords; wide = rw li (sized .wide); roomy = rw lb (sized .roomy) }, rw li ei, rw lb eb)
 
+    -- ---- 20
+
+    audit-roll : isBadRoll roll ≡ true → outcome ≡ refused badRoll 0
+    unfolding audit if_then_else_
+    audit-roll q = rw (le-ltb _ _ (sized .fewWords), le-ltb _ _ (sized .wide), le-ltb _ _ (sized .roomy), q)
+
+    pub audited-roll : isBadRoll roll ≡ true → (r : Report) → reported r ≡ reportOf base (refused badRoll 0) → {i b : List ℕ}
+        → i ≡ replicate (length index) 0 → b ≡ replicate (length ballots) 0 → Audited r i b
+    unfolding tableAfter
+    audited-roll q r told ei eb = rw (audit-roll q) (told, (ei, eb))
+
+  module _ (sized : Sized board index ballots) (good : T (not (isBadRoll roll))) where
+    good-is : isBadRoll roll ≡ false
+    good-is = is-false (isBadRoll roll) (not-iff (isBadRoll roll) .0 good)
+
     -- ---- 3
 
     audit-empty : isEmpty board ≡ true → outcome ≡ refused emptyBoard 0
     unfolding audit if_then_else_
-    audit-empty q = rw (le-ltb _ _ (sized .fewWords), le-ltb _ _ (sized .wide), le-ltb _ _ (sized .roomy), q)
+    audit-empty q = rw (le-ltb _ _ (sized .fewWords), le-ltb _ _ (sized .wide), le-ltb _ _ (sized .roomy), good-is, q)
 
     pub audited-empty : isEmpty board ≡ true → (r : Report) → reported r ≡ reportOf base (refused emptyBoard 0) → {i b : List ℕ}
         → i ≡ replicate (length index) 0 → b ≡ replicate (length ballots) 0 → Audited r i b
@@ -96,7 +114,7 @@ module _ (board verdicts index ballots : List ℕ) where
 
     audit-items : isEmpty board ≡ false → outcome ≡ answer
     unfolding audit if_then_else_
-    audit-items q = rw (le-ltb _ _ (sized .fewWords), le-ltb _ _ (sized .wide), le-ltb _ _ (sized .roomy), q)
+    audit-items q = rw (le-ltb _ _ (sized .fewWords), le-ltb _ _ (sized .wide), le-ltb _ _ (sized .roomy), good-is, q)
 
     cleared : (o : Outcome) (i b : List ℕ) → Holds board o i b → (r : Report) → reported r ≡ reportOf base o
         → {x : Refusal} {k : ℕ} → r .answer ≡ Refused x k
@@ -123,10 +141,10 @@ module _ (board verdicts index ballots : List ℕ) where
     filled-tables (unread n) e i b held r told a li lb = absurd held
     filled-tables (refused n k) e i b held r told a li lb =
         let number = sym (accepted-number r a) ∙ ap (λ (m : model.Report). m .number) told in
-        let some = refused-some base board verdicts (length index) (length ballots) n k e in
+        let some = refused-some base board verdicts roll (length index) (length ballots) n k e in
         absurd (omega arith)
     filled-tables (accepted h) e i b held r told a li lb =
-        let same : before board (length h) ≡ h = sym (accepted-history base board verdicts (length index) (length ballots) h e) in
+        let same : before board (length h) ≡ h = sym (accepted-history base board verdicts roll (length index) (length ballots) h e) in
         (rw (same, li) at (held .0 .rows), rw (same, lb) at (held .1 .rows))
 
     -- acceptance, and the tables hold the rows

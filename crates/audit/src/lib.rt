@@ -10,12 +10,18 @@ use report::Report;
 
 pub mod run;
 
-// Audits a board with its verdict words. The index table and the ballot table are lent for writing: the word limit and 2 change neither,
+// Audits a board with its verdict words and the roll of its voters. The index table and the ballot table are lent for writing: the word limit and 2 change neither,
 // every later refusal leaves both all zero, and acceptance leaves the rows and zeros.
-pub fn audit(board: &[u32], verdicts: &[u32], index: &mut [u32], ballots: &mut [u32]) -> Report
-    ensures answer { λ r. ⌜ reported r ≡ reportOf base (outcomeOf board verdicts index ballots) ⌝ }
-    ensures index { λ _. ⌜ now (index .exit) ≡ indexAfter (outcomeOf board verdicts index ballots) (now (index .entry)) ⌝ }
-    ensures ballots { λ _. ⌜ now (ballots .exit) ≡ ballotsAfter (outcomeOf board verdicts index ballots) (now (ballots .entry)) ⌝ }
+pub fn audit(
+    board: &[u32],
+    verdicts: &[u32],
+    roll: &[u32],
+    index: &mut [u32],
+    ballots: &mut [u32],
+) -> Report
+    ensures answer { λ r. ⌜ reported r ≡ reportOf base (outcomeOf board verdicts roll index ballots) ⌝ }
+    ensures index { λ _. ⌜ now (index .exit) ≡ indexAfter (outcomeOf board verdicts roll index ballots) (now (index .entry)) ⌝ }
+    ensures ballots { λ _. ⌜ now (ballots .exit) ≡ ballotsAfter (outcomeOf board verdicts roll index ballots) (now (ballots .entry)) ⌝ }
 {
     // 1 oversize: more words than the limit
     if Limit::WORDS < board.len() {
@@ -28,5 +34,5 @@ pub fn audit(board: &[u32], verdicts: &[u32], index: &mut [u32], ballots: &mut [
     if ballots.len() < Limit::BALLOTS {
         return Report::refused(Refusal::ShortTable, 0);
     }
-    run::read(board, verdicts, index, ballots)
+    run::start(board, verdicts, roll, index, ballots)
 }

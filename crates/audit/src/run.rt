@@ -1,5 +1,8 @@
 // The items in their order, up to the first refusal or the closing word.
 ghost use mathlib.Core.Path.{_≡_};
+ghost use mathlib.Core.Bool.{not};
+ghost use lib.Dec.{T};
+ghost use Rattle.model.specs.Roll.{isBadRoll};
 ghost use Rattle.model.specs.Audit.{isEmpty};
 ghost use Rattle.model.specs.Report.{reportOf, indexAfter, ballotsAfter};
 ghost use Rattle.format.specs.Base.{base};
@@ -31,6 +34,7 @@ fn is_empty(board: &[u32]) -> bool
 fn run(
     board: &[u32],
     verdicts: &[u32],
+    roll: &[u32],
     index: &mut [u32],
     ballots: &mut [u32],
     parents: &mut [u32],
@@ -38,8 +42,9 @@ fn run(
 ) -> Report
     requires { ⌜ (Sized (now board) (now index) (now ballots)) × (Zeros (now index)) × (Zeros (now ballots)) ⌝ }
     requires { ⌜ (now parents ≡ parentChain (now board) 0) × (now sessions ≡ sessionChain (now board) 0) ⌝ }
-    ensures answer { λ r. ⌜ reported r ≡ reportOf base (itemsOutcome board verdicts) ⌝ }
-    ensures tables { λ _. ⌜ Holds (now (board .entry)) (itemsOutcome board verdicts) (now (index .exit)) (now (ballots .exit)) ⌝ }
+    requires { ⌜ T (not (isBadRoll (now roll))) ⌝ }
+    ensures answer { λ r. ⌜ reported r ≡ reportOf base (itemsOutcome board verdicts roll) ⌝ }
+    ensures tables { λ _. ⌜ Holds (now (board .entry)) (itemsOutcome board verdicts roll) (now (index .exit)) (now (ballots .exit)) ⌝ }
 {
     let mut s = State::new();
     loop {
@@ -55,7 +60,7 @@ fn run(
         if s.items == Limit::ITEMS {
             return Report::refused(Refusal::TooLarge, s.items);
         }
-        let step = step::advance(board, verdicts, index, ballots, parents, sessions, s);
+        let step = step::advance(board, verdicts, roll, index, ballots, parents, sessions, s);
         let finding = step.finding;
         if let Finding::Fails(refusal) = finding {
             return Report::refused(refusal, s.items);
@@ -65,12 +70,18 @@ fn run(
     }
 }
 
-// The audit of a board within the word limit, with tables that are long enough.
-pub fn read(board: &[u32], verdicts: &[u32], index: &mut [u32], ballots: &mut [u32]) -> Report
-    requires { ⌜ Sized (now board) (now index) (now ballots) ⌝ }
-    ensures answer { λ r. ⌜ reported r ≡ reportOf base (outcomeOf board verdicts index ballots) ⌝ }
-    ensures index { λ _. ⌜ now (index .exit) ≡ indexAfter (outcomeOf board verdicts index ballots) (now (index .entry)) ⌝ }
-    ensures ballots { λ _. ⌜ now (ballots .exit) ≡ ballotsAfter (outcomeOf board verdicts index ballots) (now (ballots .entry)) ⌝ }
+// The audit of a board within the word limit, with a good roll and tables that are long enough.
+fn read(
+    board: &[u32],
+    verdicts: &[u32],
+    roll: &[u32],
+    index: &mut [u32],
+    ballots: &mut [u32],
+) -> Report
+    requires { ⌜ (Sized (now board) (now index) (now ballots)) × (T (not (isBadRoll (now roll)))) ⌝ }
+    ensures answer { λ r. ⌜ reported r ≡ reportOf base (outcomeOf board verdicts roll index ballots) ⌝ }
+    ensures index { λ _. ⌜ now (index .exit) ≡ indexAfter (outcomeOf board verdicts roll index ballots) (now (index .entry)) ⌝ }
+    ensures ballots { λ _. ⌜ now (ballots .exit) ≡ ballotsAfter (outcomeOf board verdicts roll index ballots) (now (ballots .entry)) ⌝ }
 {
     words::clear(index);
     words::clear(ballots);
@@ -81,7 +92,15 @@ pub fn read(board: &[u32], verdicts: &[u32], index: &mut [u32], ballots: &mut [u
     // The chain tables, without an item.
     let mut parents = [0; Chain::WORDS];
     let mut sessions = [0; Chain::WORDS];
-    let r = run(board, verdicts, index, ballots, &mut parents, &mut sessions);
+    let r = run(
+        board,
+        verdicts,
+        roll,
+        index,
+        ballots,
+        &mut parents,
+        &mut sessions,
+    );
     let answer = r.answer;
     if let Answer::Refused {
         refusal: _,
@@ -91,4 +110,26 @@ pub fn read(board: &[u32], verdicts: &[u32], index: &mut [u32], ballots: &mut [u
         words::clear(ballots);
     }
     r
+}
+
+// The audit of a board within the word limit, with tables that are long enough.
+pub fn start(
+    board: &[u32],
+    verdicts: &[u32],
+    roll: &[u32],
+    index: &mut [u32],
+    ballots: &mut [u32],
+) -> Report
+    requires { ⌜ Sized (now board) (now index) (now ballots) ⌝ }
+    ensures answer { λ r. ⌜ reported r ≡ reportOf base (outcomeOf board verdicts roll index ballots) ⌝ }
+    ensures index { λ _. ⌜ now (index .exit) ≡ indexAfter (outcomeOf board verdicts roll index ballots) (now (index .entry)) ⌝ }
+    ensures ballots { λ _. ⌜ now (ballots .exit) ≡ ballotsAfter (outcomeOf board verdicts roll index ballots) (now (ballots .entry)) ⌝ }
+{
+    // 20 bad roll
+    if roll::is_bad(roll) {
+        words::clear(index);
+        words::clear(ballots);
+        return Report::refused(Refusal::BadRoll, 0);
+    }
+    read(board, verdicts, roll, index, ballots)
 }

@@ -11,12 +11,15 @@ use mathlib.Core.List.{List}
 use lib.ListN.{length}
 use lib.Dec.{T, eqb}
 use borrow.Author.Tests.{ne-eqb}
+use Rattle.model.specs.Lists.{_⇒_}
 use Rattle.model.specs.Words.{countOf}
 use Rattle.model.specs.Codes.{genesisType, sessionType}
-use Rattle.model.specs.Item.{itemAt, code}
+use Rattle.model.specs.Format.{Format}
+use Rattle.model.specs.Item.{Item, itemAt, code}
 use Rattle.model.specs.Types.{Listed, fits}
-use Rattle.model.specs.History.{entry, typed, placeOf, entryOf}
-use Rattle.model.specs.Sound.{Shaped, Meets, Passed}
+use Rattle.model.specs.History.{History, entry, typed, placeOf, entryOf}
+use Rattle.model.specs.Roll.{Eligibility, onRollOk}
+use Rattle.model.specs.Sound.{Shaped, Meets, Passed, none, next}
 use Rattle.model.proofs.Tests.{by-test}
 use Rattle.model.proofs.Parsing.{shaped-at}
 use Rattle.model.proofs.Entries.{Fine, orderly, fine-at, parent-genesis, parent-bound, session-bound}
@@ -24,7 +27,7 @@ use Rattle.model.proofs.Beginnings.{made-at}
 use Rattle.model.proofs.Unchecked.{length-history, history-take, entry-history}
 use Rattle.format.specs.Base.{base}
 use Rattle.format.specs.Layout.{itemOf}
-use Rattle.index.specs.Kept.{before, itemAfter, Kept}
+use Rattle.index.specs.Kept.{before, itemAfter, anyone, Kept}
 
 -- ---- places and items, whether they pass or not
 
@@ -57,13 +60,35 @@ module _ (board : List ℕ) (n : ℕ) where
 
 -- ---- the items that pass
 
+-- what passes with one roll passes whoever is on it
+pub meets-anyone : {f : Format} {on : Eligibility} {h : History} {v : List ℕ} {i : Item} → Meets f on h v i → Meets f anyone h v i
+unfolding onRollOk _⇒_
+meets-anyone {i} m = record {
+  listed = m .listed;
+  counted = m .counted;
+  shaped = m .shaped;
+  address = m .address;
+  previous = m .previous;
+  parent = m .parent;
+  time = m .time;
+  phase = m .phase;
+  only = m .only;
+  content = m .content;
+  enrolled = by-test (eqb (code i) sessionType) (λ q. rw q tt) (λ q. rw q tt);
+  verdict = m .verdict;
+}
+
+pub passed-anyone : {f : Format} {on : Eligibility} {ws vs : List ℕ} {h : History} → Passed f on ws vs h → Passed f anyone ws vs h
+passed-anyone none = none
+passed-anyone (next ws vs h v i p m) = next ws vs h v i (passed-anyone p) (meets-anyone m)
+
 -- the item after the first k meets the rules, under some verdict, and the first k pass
 pub record Met (board : List ℕ) (k : ℕ) : Type 0 where
   pub verdict : List ℕ
-  pub meets : Meets base (before board k) verdict (itemAfter board k)
+  pub meets : Meets base anyone (before board k) verdict (itemAfter board k)
   pub words : List ℕ
   pub verdicts : List ℕ
-  pub passed : Passed base words verdicts (before board k)
+  pub passed : Passed base anyone words verdicts (before board k)
 
 module _ {board index : List ℕ} {n : ℕ} (kept : Kept board index n) where
   pub item-within : (k : ℕ) → 1 ≤ k → k ≤ n

@@ -31,7 +31,7 @@ use Rattle.format.specs.Layout.{itemOf}
 use Rattle.format.proofs.Places.{head-is}
 use Rattle.index.specs.declared.Known.{Known}
 use Rattle.index.specs.Rows.{closedBy}
-use Rattle.index.specs.Kept.{before, itemAfter, Kept}
+use Rattle.index.specs.Kept.{before, itemAfter, anyone, Kept}
 use Rattle.index.specs.Known.{Passing}
 
 -- the row of an item with so many main items before it, that nothing closed yet
@@ -83,7 +83,7 @@ module _ {board index : List ℕ} {n : ℕ} {c : Known} (p : Passing board index
         mains = omega (arith, p .more);
       }
 
-  passed-next : Passed base (take (placeOf base board (suc n)) board) (p .kept .verdicts ++ p .verdict) (before board (suc n))
+  passed-next : Passed base anyone (take (placeOf base board (suc n)) board) (p .kept .verdicts ++ p .verdict) (before board (suc n))
   unfolding placeOf history
   passed-next =
       let at = placeOf base board n in

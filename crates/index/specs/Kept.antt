@@ -1,11 +1,13 @@
 -- What every question to the items so far stands on: a board whose first items pass, and an index table that holds their rows.
 -- Paper: "Refusals and their order" (index rows). Assumes nothing.
 use mathlib.Core.Path.{_≡_}
+use mathlib.Core.Bool.{true}
 use mathlib.Core.List.{List}
 use Prim.Native.Nat.{ℕ, _≤_}
 use lib.ListN.{length, take}
 use Rattle.model.specs.Item as item
 use Rattle.model.specs.History.{History, placeOf, history}
+use Rattle.model.specs.Roll.{Eligibility}
 use Rattle.model.specs.Audit.{wordLimit, itemLimit, indexNeed}
 use Rattle.model.specs.Report.{indexRows, filled}
 use Rattle.model.specs.Sound.{Passed}
@@ -18,11 +20,15 @@ before board n = history base board n
 abbrev pub itemAfter : List ℕ → ℕ → item.Item
 itemAfter board n = item.itemAt base board (placeOf base board n)
 
--- the first n items of the board pass, under some verdicts, and the index table holds their rows and zeros
+-- who is on the roll does not matter to what is asked of the items that passed
+abbrev pub anyone : Eligibility
+anyone voter weight = true
+
+-- the first n items of the board pass, under some verdicts and whoever is on the roll, and the index table holds their rows and zeros
 pub record Kept (board index : List ℕ) (n : ℕ) : Type 0 where
   pub rows : index ≡ filled (length index) (indexRows (before board n) 0 (before board n))
   pub verdicts : List ℕ
-  pub passed : Passed base (take (placeOf base board n) board) verdicts (before board n)
+  pub passed : Passed base anyone (take (placeOf base board n) board) verdicts (before board n)
   pub within : placeOf base board n ≤ length board
   pub few : n ≤ itemLimit
   pub words : length board ≤ wordLimit

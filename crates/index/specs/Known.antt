@@ -10,7 +10,7 @@ use Rattle.model.specs.Audit.{itemLimit}
 use Rattle.model.specs.Sound.{Meets}
 use Rattle.format.specs.Base.{base}
 use Rattle.format.specs.Layout.{itemOf}
-use Rattle.index.specs.Kept.{before, itemAfter, Kept}
+use Rattle.index.specs.Kept.{before, itemAfter, anyone, Kept}
 use Rattle.index.specs.declared.Known.{Known}
 
 -- an entry of a board's history, as the code knows it
@@ -23,11 +23,11 @@ pub record IsKnown (board : List ℕ) (e : Entry) (r : Known) : Type 0 where
   pub item : e .item ≡ itemAt base board (e .place)
   pub within : r .item .end ≤ length board
 
--- the item after the first n meets the rules, under some verdict, and c is what is known of it
+-- the item after the first n meets the rules, under some verdict and whoever is on the roll, and c is what is known of it
 pub record Passing (board index : List ℕ) (n : ℕ) (c : Known) : Type 0 where
   pub kept : Kept board index n
   pub more : n < itemLimit
   pub known : c ≡ knownOf board (entryOf (before board n) (placeOf base board n) (itemAfter board n))
   pub verdict : List ℕ
-  pub meets : Meets base (before board n) verdict (itemAfter board n)
+  pub meets : Meets base anyone (before board n) verdict (itemAfter board n)
   pub within : placeOf base board (suc n) ≤ length board

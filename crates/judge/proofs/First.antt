@@ -7,7 +7,7 @@ use mathlib.Core.Bool.{Bool, true, false, not}
 use mathlib.Core.List.{List, [], _∷_}
 use lib.ListN.{take, drop}
 use Rattle.model.specs.Lists.{if_then_else_}
-use Rattle.model.specs.Refusal.{wrongAddress, wrongPrevious, wrongParent, earlierTime, outOfPhase, duplicate, badContent, noVerdict, wrongKey, badSignature}
+use Rattle.model.specs.Refusal.{wrongAddress, wrongPrevious, wrongParent, earlierTime, outOfPhase, duplicate, badContent, notOnRoll, noVerdict, wrongKey, badSignature}
 use Rattle.model.specs.Format.{Format}
 use Rattle.model.specs.Item.{Item}
 use Rattle.model.specs.Types.{Row}
@@ -16,6 +16,7 @@ use Rattle.model.specs.Links.{addressOk, previousOk, parentOk, timeOk}
 use Rattle.model.specs.Phase.{phaseOk}
 use Rattle.model.specs.Only.{onlyOk}
 use Rattle.model.specs.Content.{contentOk}
+use Rattle.model.specs.Roll.{Eligibility, onRollOk}
 use Rattle.model.specs.Keys.{keyOf, verdictOk, keyOk, signatureOk}
 use Rattle.model.specs.Audit.{Check, firstUnmet, checks}
 use Rattle.model.proofs.Tests.{by-test}
@@ -69,9 +70,9 @@ first-late (suc k) (c ∷ cs) some e =
     (λ q. rw q (first-late k cs (some .1) (rw q at e)))
     (λ q. let none : 0 ≡ c .number = rw q at e in let one = some .0 in absurd (omega arith))
 
-module _ (f : Format) (h : History) (v : List ℕ) (r : Row) (i : Item) where
+module _ (f : Format) (on : Eligibility) (h : History) (v : List ℕ) (r : Row) (i : Item) where
   abbrev all : List Check
-  all = checks f h v r i
+  all = checks f on h v r i
 
   -- ---- 7 to 10
 
@@ -98,7 +99,7 @@ module _ (f : Format) (h : History) (v : List ℕ) (r : Row) (i : Item) where
   unfolding firstUnmet checks if_then_else_
   links-met a p o t = rw (a, p, o, t)
 
-  -- ---- 11 to 13
+  -- ---- 11 to 13, and 21
 
   abbrev Rules : ℕ → Type 0
   Rules n = n ≡ firstUnmet (ruleChecks all)
@@ -115,9 +116,13 @@ module _ (f : Format) (h : History) (v : List ℕ) (r : Row) (i : Item) where
   unfolding firstUnmet checks if_then_else_
   rules-content p o c = rw (p, o, c)
 
-  pub rules-met : phaseOk h i ≡ true → onlyOk h i ≡ true → contentOk f h i ≡ true → Rules 0
+  pub rules-roll : phaseOk h i ≡ true → onlyOk h i ≡ true → contentOk f h i ≡ true → onRollOk on i ≡ false → Rules notOnRoll
   unfolding firstUnmet checks if_then_else_
-  rules-met p o c = rw (p, o, c)
+  rules-roll p o c e = rw (p, o, c, e)
+
+  pub rules-met : phaseOk h i ≡ true → onlyOk h i ≡ true → contentOk f h i ≡ true → onRollOk on i ≡ true → Rules 0
+  unfolding firstUnmet checks if_then_else_
+  rules-met p o c e = rw (p, o, c, e)
 
   -- ---- 14 to 16
 
@@ -154,7 +159,7 @@ module _ (f : Format) (h : History) (v : List ℕ) (r : Row) (i : Item) where
   first-links n some e = first-early 4 n all some e
 
   pub first-rules : (n : ℕ) → 1 ≤ n → Links 0 → Rules n → n ≡ firstUnmet all
-  first-rules n some links e = first-early 3 n (drop 4 all) some e ∙ sym (first-late 4 all numbers links)
+  first-rules n some links e = first-early 4 n (drop 4 all) some e ∙ sym (first-late 4 all numbers links)
 
   pub first-verdict : (n : ℕ) → Links 0 → Rules 0 → Verdict n → n ≡ firstUnmet all
-  first-verdict n links rules e = e ∙ sym (first-late 4 all numbers links ∙ first-late 3 (drop 4 all) numbers-late rules)
+  first-verdict n links rules e = e ∙ sym (first-late 4 all numbers links ∙ first-late 4 (drop 4 all) numbers-late rules)

@@ -13,6 +13,7 @@ use Rattle.model.specs.Format.{Format}
 use Rattle.model.specs.Item.{itemAt, behind}
 use Rattle.model.specs.Types.{Row, rowOf, fits}
 use Rattle.model.specs.History.{History, entryOf, parentNumber, sessionNumber}
+use Rattle.model.specs.Roll.{Eligibility}
 use Rattle.model.specs.Audit.{checks, verdictOf, faultIn, fault}
 use Rattle.model.specs.Sound.{Meets}
 use Rattle.model.proofs.Tests.{tests, not-not, by-if}
@@ -65,12 +66,12 @@ candidate-known board {s} {item} {parent} {session} stands is ep es =
 
 -- ---- an item without a refusal
 
-module _ (f : Format) (ws vs : List ℕ) where
+module _ (f : Format) (on : Eligibility) (ws vs : List ℕ) where
   -- it lies within the words, and meets the rules
   abbrev Met : History → ℕ → Type 0
-  Met h p = (behind f ws p ≤ length ws) × Meets f h (verdictOf f ws vs h) (itemAt f ws p)
+  Met h p = (behind f ws p ≤ length ws) × Meets f on h (verdictOf f ws vs h) (itemAt f ws p)
 
-  fault-in-meets : (r : Option Row) (h : History) (p : ℕ) → rowOf f (getD ws p 0) ≡ r → faultIn f ws vs r h p ≡ noFault → Met h p
+  fault-in-meets : (r : Option Row) (h : History) (p : ℕ) → rowOf f (getD ws p 0) ≡ r → faultIn f on ws vs r h p ≡ noFault → Met h p
   unfolding faultIn itemAt checks
   fault-in-meets none h p listed e = absurd (omega arith)
   fault-in-meets (some r) h p listed e =
@@ -82,10 +83,10 @@ module _ (f : Format) (ws vs : List ℕ) where
       (λ t. by-if Goal (ltb (length ws) (behind f ws p)) _ _ (λ u n. absurd (omega arith))
       λ u.
       let fit : behind f ws p ≤ length ws = omega (arith, tests) in
-      by-checks Goal (checks f h v r i)
-      (λ met n. (fit, meets f h v i (record { row = r; found = listed }) (not-not fitting .0 t) (shaped-at f ws p fit) met))
-      (numbers-map (λ n. 1 ≤ n) Goal (λ n l q. absurd (omega arith)) (checks f h v r i) (omega arith)))
+      by-checks Goal (checks f on h v r i)
+      (λ met n. (fit, meets f on h v i (record { row = r; found = listed }) (not-not fitting .0 t) (shaped-at f ws p fit) met))
+      (numbers-map (λ n. 1 ≤ n) Goal (λ n l q. absurd (omega arith)) (checks f on h v r i) (omega arith)))
       e
 
-  pub fault-meets : (h : History) (p : ℕ) → fault f ws vs h p ≡ noFault → Met h p
+  pub fault-meets : (h : History) (p : ℕ) → fault f on ws vs h p ≡ noFault → Met h p
   fault-meets h p = fault-in-meets (rowOf f (getD ws p 0)) h p refl

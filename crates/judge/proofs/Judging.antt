@@ -12,6 +12,7 @@ use Rattle.model.specs.Words.{kindOf, codeOf, countOf}
 use Rattle.model.specs.Item.{behind}
 use Rattle.model.specs.Types as types
 use Rattle.model.specs.History.{placeOf, entryOf}
+use Rattle.model.specs.Roll.{onRoll}
 use Rattle.model.specs.Audit.{firstUnmet, faultIn, itemLimit}
 use Rattle.model.proofs.Tests.{passes}
 use Rattle.model.proofs.Unchecked.{length-history}
@@ -25,6 +26,7 @@ use Rattle.format.specs.declared.table.Listing.{Listing}
 use Rattle.index.specs.Kept.{before, Kept}
 use Rattle.index.specs.Known.{Passing}
 use Rattle.index.specs.declared.Known.{Known}
+use Rattle.index.proofs.Items.{meets-anyone}
 use Rattle.state.specs.declared.State.{State}
 use Rattle.state.specs.Stands.{Stands, knownNext, AtItem, IsRow}
 use Rattle.keys.specs.Verdicts.{verdictAt}
@@ -42,11 +44,11 @@ pub listed-row : (board : List ℕ) (s : State) {head : Head} (listing : Listing
 unfolding types.rowOf
 listed-row board s listing is same found = sym (rw (is, same) at found)
 
-module _ (board verdicts : List ℕ) (s : State) where
+module _ (board verdicts roll : List ℕ) (s : State) where
   abbrev word : ℕ
   word = getD board (s .place) 0
 
-  pub fault-unlisted : types.rowOf base word ≡ none → faultAfter board verdicts s ≡ unknownType
+  pub fault-unlisted : types.rowOf base word ≡ none → faultAfter board verdicts roll s ≡ unknownType
   unfolding faultIn
   fault-unlisted q = rw q
 
@@ -60,18 +62,18 @@ module _ (board verdicts : List ℕ) (s : State) where
   count-unmet counts is e = unmet (e ∙ ap (λ (h : Head). types.fits counts (h .count)) is)
 
   module _ (row : Row) (is : IsRow board s row) where
-    pub fault-count : types.fits (countsOf (row .counts)) (countOf word) ≡ false → faultAfter board verdicts s ≡ wrongCount
+    pub fault-count : types.fits (countsOf (row .counts)) (countOf word) ≡ false → faultAfter board verdicts roll s ≡ wrongCount
     unfolding faultIn if_then_else_
     fault-count q = rw (is, q)
 
     module _ (counted : types.fits (countsOf (row .counts)) (countOf word) ≡ true) where
-      pub fault-past : {item : Item} → item ≡ itemOf board (s .place) → length board < item .end → faultAfter board verdicts s ≡ truncated
+      pub fault-past : {item : Item} → item ≡ itemOf board (s .place) → length board < item .end → faultAfter board verdicts roll s ≡ truncated
       unfolding faultIn if_then_else_
       fault-past at-place l = rw (is, counted, lt-ltb _ _ (rw (item-end board (s .place) at-place) at l))
 
-      -- 7 to 16
+      -- 7 to 16 and 21
       pub fault-checks : Stands board s → behind base board (s .place) ≤ length board
-          → faultAfter board verdicts s ≡ firstUnmet (checksOf board (verdictAt verdicts (s .items)) s row)
+          → faultAfter board verdicts roll s ≡ firstUnmet (checksOf board (onRoll roll) (verdictAt verdicts (s .items)) s row)
       unfolding faultIn if_then_else_
       fault-checks stands l = rw (is, counted, le-ltb _ _ l, length-history base board (s .items), stands .place)
 
@@ -95,21 +97,21 @@ module _ {board index : List ℕ} {s : State} (kept : Kept board index (s .items
   fit : behind base board (s .place) ≤ length board
   fit = rw (item-end board (s .place) is-item) at within
 
-  -- what is found of 7 to 16 is the answer
-  pub judged-fault : (verdicts : List ℕ) (n : ℕ) → n ≡ firstUnmet (checksOf board (verdictAt verdicts (s .items)) s row) → faultAfter board verdicts s ≡ n
-  judged-fault verdicts n e = fault-checks board verdicts s row is counted stands fit ∙ sym e
+  -- what is found of 7 to 16 and 21 is the answer
+  pub judged-fault : (verdicts roll : List ℕ) (n : ℕ) → n ≡ firstUnmet (checksOf board (onRoll roll) (verdictAt verdicts (s .items)) s row) → faultAfter board verdicts roll s ≡ n
+  judged-fault verdicts roll n e = fault-checks board verdicts roll s row is counted stands fit ∙ sym e
 
   -- an item without a refusal passes
-  pub judged-passing : (verdicts : List ℕ) (c : Known) → c ≡ knownNext board s
-      → faultAfter board verdicts s ≡ noFault → Passing board index (s .items) c
+  pub judged-passing : (verdicts roll : List ℕ) (c : Known) → c ≡ knownNext board s
+      → faultAfter board verdicts roll s ≡ noFault → Passing board index (s .items) c
   unfolding placeOf
-  judged-passing verdicts c known clean =
-      let (inside, met) = fault-meets base board verdicts (before board (s .items)) (placeOf base board (s .items)) (rw (stands .place) at clean) in
+  judged-passing verdicts roll c known clean =
+      let (inside, met) = fault-meets base (onRoll roll) board verdicts (before board (s .items)) (placeOf base board (s .items)) (rw (stands .place) at clean) in
       record {
         kept = kept;
         more = more;
         known = rw (stands .place) at known;
         verdict = _;
-        meets = met;
+        meets = meets-anyone met;
         within = inside;
       }

@@ -4,6 +4,7 @@ use mathlib.Core.List.{List}
 use lib.ListN.{getD, take, drop}
 use Rattle.model.specs.Words.{kindOf, codeOf}
 use Rattle.model.specs.Types as types
+use Rattle.model.specs.Roll.{Eligibility}
 use Rattle.model.specs.Audit.{Check, checks}
 use Rattle.format.specs.Base.{base}
 use Rattle.format.specs.Table.{writerOf, parentRuleOf, countsOf}
@@ -21,16 +22,16 @@ rowWith board s row = record {
   counts = countsOf (row .counts);
 }
 
--- 7 to 16, of the item after those that passed, with its verdict words v
-abbrev pub checksOf : List ℕ → List ℕ → State → Row → List Check
-checksOf board v s row = checks base (before board (s .items)) v (rowWith board s row) (itemAfter board (s .items))
+-- 7 to 16 and 21, of the item after those that passed, with its verdict words v, where `on` says who may vote
+abbrev pub checksOf : List ℕ → Eligibility → List ℕ → State → Row → List Check
+checksOf board on v s row = checks base on (before board (s .items)) v (rowWith board s row) (itemAfter board (s .items))
 
--- of these 7 to 10, 11 to 13, and 14 to 16
+-- of these 7 to 10, 11 to 13 and 21, and 14 to 16
 abbrev pub linkChecks : List Check → List Check
 linkChecks cs = take 4 cs
 
 abbrev pub ruleChecks : List Check → List Check
-ruleChecks cs = take 3 (drop 4 cs)
+ruleChecks cs = take 4 (drop 4 cs)
 
 abbrev pub verdictChecks : List Check → List Check
-verdictChecks cs = drop 3 (drop 4 cs)
+verdictChecks cs = drop 4 (drop 4 cs)

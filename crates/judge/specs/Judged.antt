@@ -3,6 +3,7 @@ use Prim.Native.Nat.{ℕ}
 use mathlib.Core.Path.{_≡_}
 use mathlib.Core.List.{List}
 use Rattle.model.specs.Refusal.{noFault}
+use Rattle.model.specs.Roll.{onRoll}
 use Rattle.model.specs.Audit.{fault}
 use Rattle.refusal.specs.Number.{numberOf}
 use Rattle.format.specs.Base.{base}
@@ -13,10 +14,10 @@ use Rattle.judge.specs.declared.Judged.{Judged}
 use Rattle.judge.specs.declared.Judged.the-variants.{Passes, Fails}
 
 -- the first refusal that applies to it
-abbrev pub faultAfter : List ℕ → List ℕ → State → ℕ
-faultAfter board verdicts s = fault base board verdicts (before board (s .items)) (s .place)
+abbrev pub faultAfter : (board verdicts roll : List ℕ) → State → ℕ
+faultAfter board verdicts roll s = fault base (onRoll roll) board verdicts (before board (s .items)) (s .place)
 
 -- it passes, and c is what is known of it; or that refusal is named
-abbrev pub IsJudged : List ℕ → List ℕ → List ℕ → State → Judged → Type 0
-IsJudged board verdicts index s (Passes c) = (faultAfter board verdicts s ≡ noFault) × Passing board index (s .items) c
-IsJudged board verdicts index s (Fails refusal) = faultAfter board verdicts s ≡ numberOf refusal
+abbrev pub IsJudged : (board verdicts roll index : List ℕ) → State → Judged → Type 0
+IsJudged board verdicts roll index s (Passes c) = (faultAfter board verdicts roll s ≡ noFault) × Passing board index (s .items) c
+IsJudged board verdicts roll index s (Fails refusal) = faultAfter board verdicts roll s ≡ numberOf refusal

@@ -1,7 +1,10 @@
-// Checks 7 to 16 of an item whose head is listed and that lies within the board. Each comment gives the paper's number and word.
+// Checks 7 to 16 and 21 of an item whose head is listed and that lies within the board. Each comment gives the paper's number and word.
 ghost use mathlib.Core.Path.{_≡_};
 ghost use mathlib.Core.List.{List};
+ghost use mathlib.Core.Bool.{not};
 ghost use Prim.Native.Nat.{ℕ};
+ghost use lib.Dec.{T};
+ghost use Rattle.model.specs.Roll.{Eligibility, isBadRoll, onRoll};
 ghost use Rattle.model.specs.Audit.{firstUnmet};
 ghost use Rattle.refusal.specs.Number.{foundOf};
 ghost use Rattle.lookup.specs.Buckets.{sessionChain};
@@ -18,7 +21,7 @@ use state::State;
 // Its links to the items before it.
 fn links_finding(board: &[u32], index: &[u32], s: State, c: Known, row: Row) -> Finding
     requires { ⌜ (AtItem (now board) (now index) s c) × (IsRow (now board) s row) ⌝ }
-    ensures { λ r. ⌜ ((v : List ℕ) → foundOf r ≡ firstUnmet (linkChecks (checksOf (now (board .entry)) v s row))) ⌝ }
+    ensures { λ r. ⌜ ((on : Eligibility) (v : List ℕ) → foundOf r ≡ firstUnmet (linkChecks (checksOf (now (board .entry)) on v s row))) ⌝ }
 {
     // 7 false address
     if !links::address_ok(board, c.item) {
@@ -42,6 +45,7 @@ fn links_finding(board: &[u32], index: &[u32], s: State, c: Known, row: Row) -> 
 // The rules of its type.
 fn rules_finding(
     board: &[u32],
+    roll: &[u32],
     index: &[u32],
     ballots: &[u32],
     sessions: &[u32],
@@ -52,7 +56,9 @@ fn rules_finding(
     requires { ⌜ (AtItem (now board) (now index) s c)
         × (Tallied (now board) (now ballots) (s .items))
         × (now sessions ≡ sessionChain (now board) (s .items)) ⌝ }
-    ensures { λ r. ⌜ ((v : List ℕ) → foundOf r ≡ firstUnmet (ruleChecks (checksOf (now (board .entry)) v s row))) ⌝ }
+    requires { ⌜ T (not (isBadRoll (now roll))) ⌝ }
+    ensures { λ r. ⌜ ((v : List ℕ)
+        → foundOf r ≡ firstUnmet (ruleChecks (checksOf (now (board .entry)) (onRoll (now (roll .entry))) v s row))) ⌝ }
 {
     // 11 out of phase
     if !phases::phase_ok(board, index, sessions, s, c) {
@@ -65,6 +71,10 @@ fn rules_finding(
     // 13 bad content
     if !contents::content_ok(board, index, ballots, s, c) {
         return Finding::Fails(Refusal::BadContent);
+    }
+    // 21 not on the roll
+    if !roll::on_roll_ok(board, index, roll, s, c) {
+        return Finding::Fails(Refusal::NotOnRoll);
     }
     Finding::Passes
 }
@@ -79,8 +89,8 @@ fn verdict_finding(
     row: Row,
 ) -> Finding
     requires { ⌜ (AtItem (now board) (now index) s c) × (IsRow (now board) s row) ⌝ }
-    ensures { λ r. ⌜ foundOf r
-        ≡ firstUnmet (verdictChecks (checksOf (now (board .entry)) (verdictAt (now (verdicts .entry)) (s .items)) s row)) ⌝ }
+    ensures { λ r. ⌜ ((on : Eligibility) → foundOf r
+        ≡ firstUnmet (verdictChecks (checksOf (now (board .entry)) on (verdictAt (now (verdicts .entry)) (s .items)) s row))) ⌝ }
 {
     // 14 no verdict
     if !keys::verdict_ok(verdicts, s.items) {
@@ -97,10 +107,11 @@ fn verdict_finding(
     Finding::Passes
 }
 
-// "7 to 16 in order": the first that applies.
+// "7 to 16 in order", 21 "right after 13": the first that applies.
 pub fn item_finding(
     board: &[u32],
     verdicts: &[u32],
+    roll: &[u32],
     index: &[u32],
     ballots: &[u32],
     sessions: &[u32],
@@ -110,13 +121,15 @@ pub fn item_finding(
 ) -> Finding
     requires { ⌜ (AtItem (now board) (now index) s c) × (IsRow (now board) s row) ⌝ }
     requires { ⌜ (Tallied (now board) (now ballots) (s .items)) × (now sessions ≡ sessionChain (now board) (s .items)) ⌝ }
-    ensures { λ r. ⌜ foundOf r ≡ firstUnmet (checksOf (now (board .entry)) (verdictAt (now (verdicts .entry)) (s .items)) s row) ⌝ }
+    requires { ⌜ T (not (isBadRoll (now roll))) ⌝ }
+    ensures { λ r. ⌜ foundOf r
+        ≡ firstUnmet (checksOf (now (board .entry)) (onRoll (now (roll .entry))) (verdictAt (now (verdicts .entry)) (s .items)) s row) ⌝ }
 {
     let links = links_finding(board, index, s, c, row);
     if let Finding::Fails(_) = links {
         return links;
     }
-    let rules = rules_finding(board, index, ballots, sessions, s, c, row);
+    let rules = rules_finding(board, roll, index, ballots, sessions, s, c, row);
     if let Finding::Fails(_) = rules {
         return rules;
     }

@@ -1,7 +1,10 @@
-// One item, judged: the checks in their order, "5, 6, 4, then 7 to 16". The first that applies is the answer.
+// One item, judged: the checks in their order, "5, 6, 4, then 7 to 16", 21 "right after 13". The first that applies is the answer.
 ghost use mathlib.Core.Path.{_≡_};
 ghost use Prim.Native.Nat.{_≤_, _<_};
+ghost use mathlib.Core.Bool.{not};
 ghost use lib.ListN.{length};
+ghost use lib.Dec.{T};
+ghost use Rattle.model.specs.Roll.{isBadRoll};
 ghost use Rattle.model.specs.Audit.{itemLimit};
 ghost use Rattle.format.specs.Layout.{itemOf};
 ghost use Rattle.index.specs.Kept.{Kept};
@@ -45,6 +48,7 @@ fn candidate(board: &[u32], index: &[u32], parents: &[u32], s: State, item: Item
 pub fn judge(
     board: &[u32],
     verdicts: &[u32],
+    roll: &[u32],
     index: &[u32],
     ballots: &[u32],
     parents: &[u32],
@@ -53,8 +57,8 @@ pub fn judge(
 ) -> Judged
     requires { ⌜ (Kept (now board) (now index) (s .items)) × (Stands (now board) s) × (Tallied (now board) (now ballots) (s .items)) ⌝ }
     requires { ⌜ (now parents ≡ parentChain (now board) (s .items)) × (now sessions ≡ sessionChain (now board) (s .items)) ⌝ }
-    requires { ⌜ (s .place < length (now board)) × (s .items < itemLimit) ⌝ }
-    ensures { λ r. ⌜ IsJudged (now (board .entry)) (now (verdicts .entry)) (now (index .entry)) s r ⌝ }
+    requires { ⌜ (s .place < length (now board)) × (s .items < itemLimit) × (T (not (isBadRoll (now roll)))) ⌝ }
+    ensures { λ r. ⌜ IsJudged (now (board .entry)) (now (verdicts .entry)) (now (roll .entry)) (now (index .entry)) s r ⌝ }
 {
     let place = s.place;
     let head = Head::of(board[place]);
@@ -74,7 +78,7 @@ pub fn judge(
         return Judged::Fails(Refusal::Truncated);
     }
     let c = candidate(board, index, parents, s, item);
-    let found = checks::item_finding(board, verdicts, index, ballots, sessions, s, c, row);
+    let found = checks::item_finding(board, verdicts, roll, index, ballots, sessions, s, c, row);
     match found {
         Finding::Passes => Judged::Passes(c),
         Finding::Fails(refusal) => Judged::Fails(refusal),

@@ -40,6 +40,10 @@ pub enum Refusal {
     BadClosing,
     // 19 no such point
     NoSuchItem,
+    // 20 bad roll
+    BadRoll,
+    // 21 not on the roll
+    NotOnRoll,
 }
 
 // What the checks of an item find.
@@ -71,5 +75,7 @@ pub fn number_of(refusal: Refusal) -> u32
         Refusal::BadSignature => 16,
         Refusal::BadClosing => 18,
         Refusal::NoSuchItem => 19,
+        Refusal::BadRoll => 20,
+        Refusal::NotOnRoll => 21,
     }
 }

@@ -16,6 +16,7 @@ use Rattle.model.specs.Format.{Format}
 use Rattle.model.specs.Item.{Item, code, time, word}
 use Rattle.model.specs.History.{History, Entry, entryOf, itemNo, typed, sessionNumber, sessionContests}
 use Rattle.model.specs.Content.{defines, contestsOk, mayVote, contestOk}
+use Rattle.model.specs.Roll.{Eligibility}
 use Rattle.model.specs.Sound.{Passed}
 use Rattle.model.proofs.Tests.{by-test, passes, facts, allIn-ext}
 use Rattle.model.proofs.Lists.{Every}
@@ -81,7 +82,7 @@ pub definedSet-small : (h : History) → Every ContestSmall h → definedSet h <
 unfolding definedSet
 definedSet-small h all = from-small 0 h (omega arith) all
 
-pub contests-small : {f : Format} {ws vs : List ℕ} {h : History} → Passed f ws vs h → Every ContestSmall h
+pub contests-small : {f : Format} {on : Eligibility} {ws vs : List ℕ} {h : History} → Passed f on ws vs h → Every ContestSmall h
 unfolding entryOf contestOk
 contests-small b = passed-each ContestSmall (λ g v i n m t. simp facts at (content-rules (m .content) .contest) (eqb→eq (code i) contestType t)) b
 

@@ -20,6 +20,7 @@ use Rattle.model.specs.Item.{Item, itemAt, contentAt, code, word}
 use Rattle.model.specs.History.{History, Entry, absent, entry, entryOf, itemNo, itemsWith, lastFrom, typed, placeOf, history}
 use Rattle.model.specs.Phase.{roundNumber, roundContests, sameRound, rounds, isOpen}
 use Rattle.model.specs.Content.{enables, roundOk}
+use Rattle.model.specs.Roll.{Eligibility}
 use Rattle.model.specs.Sound.{Meets, Passed, none, next}
 use Rattle.model.proofs.Tests.{by-test, passes, by-if, facts}
 use Rattle.model.proofs.Lists.{Every, every-snoc}
@@ -259,12 +260,13 @@ enabledSet-small t h words =
 -- ---- a passed history
 
 -- what every item that meets the rules has, every entry has
-pub passed-each : {f : Format} (P : Entry → Type 0) → ((g : History) (v : List ℕ) (i : Item) (n : ℕ) → Meets f g v i → P (entryOf g n i))
-    → {ws vs : List ℕ} {h : History} → Passed f ws vs h → Every P h
+pub passed-each : {f : Format} {on : Eligibility} (P : Entry → Type 0)
+    → ((g : History) (v : List ℕ) (i : Item) (n : ℕ) → Meets f on g v i → P (entryOf g n i))
+    → {ws vs : List ℕ} {h : History} → Passed f on ws vs h → Every P h
 passed-each P all none = tt
 passed-each P all (next us ts g v i b m) = every-snoc P g (entryOf g (length us) i) (passed-each P all b) (all g v i (length us) m)
 
-pub rounds-small : {f : Format} {ws vs : List ℕ} {h : History} → Passed f ws vs h → Every RoundSmall h
+pub rounds-small : {f : Format} {on : Eligibility} {ws vs : List ℕ} {h : History} → Passed f on ws vs h → Every RoundSmall h
 unfolding entryOf roundOk
 rounds-small b = passed-each RoundSmall (λ g v i n m t.
     let ok = simp facts at (content-rules (m .content) .round) (eqb→eq (code i) roundType t) .0 .0 in omega arith) b

@@ -40,13 +40,13 @@ reached-next s n kept stands tallied chains = record {
   sessions = rw n (chains .1);
 }
 
-module _ (board verdicts index : List ℕ) (s : State) (j : Judged) (judged : IsJudged board verdicts index s j) where
+module _ (board verdicts roll index : List ℕ) (s : State) (j : Judged) (judged : IsJudged board verdicts roll index s j) where
   pub judged-passing : (c : Known) → j ≡ Passes c → Passing board index (s .items) c
   judged-passing c e = (rw e at judged) .1
 
   pub stepped-passes : (c : Known) → j ≡ Passes c → (ballots parents sessions : List ℕ) {index′ ballots′ parents′ sessions′ : List ℕ} (r : State)
       → (r .items ≡ s .items + 1) × Reached board index′ ballots′ parents′ sessions′ r
-      → Stepped board verdicts index ballots parents sessions index′ ballots′ parents′ sessions′ s record { finding = finding.Passes; state = r }
+      → Stepped board verdicts roll index ballots parents sessions index′ ballots′ parents′ sessions′ s record { finding = finding.Passes; state = r }
   stepped-passes c e ballots parents sessions r next = record {
     finding = sym ((rw e at judged) .0);
     passed = λ q. next;
@@ -54,7 +54,7 @@ module _ (board verdicts index : List ℕ) (s : State) (j : Judged) (judged : Is
   }
 
   pub stepped-fails : (x : Refusal) → j ≡ Fails x → (ballots parents sessions : List ℕ)
-      → Stepped board verdicts index ballots parents sessions index ballots parents sessions s record { finding = finding.Fails x; state = s }
+      → Stepped board verdicts roll index ballots parents sessions index ballots parents sessions s record { finding = finding.Fails x; state = s }
   stepped-fails x e ballots parents sessions = record {
     finding = sym (rw e at judged);
     passed = λ q. absurd (omega (arith, number-some x));

@@ -22,7 +22,7 @@ pub record Reached (board index ballots parentTable sessionTable : List ℕ) (s 
   pub sessions : sessionTable ≡ sessionChain board (s .items)
 
 -- the item after them was judged: the first refusal that applies. Without one the audit stands behind the item, with one it stays
-pub record Stepped (board verdicts index ballots parents sessions index′ ballots′ parents′ sessions′ : List ℕ) (s : State) (r : Step) : Type 0 where
-  pub finding : foundOf (r .finding) ≡ faultAfter board verdicts s
+pub record Stepped (board verdicts roll index ballots parents sessions index′ ballots′ parents′ sessions′ : List ℕ) (s : State) (r : Step) : Type 0 where
+  pub finding : foundOf (r .finding) ≡ faultAfter board verdicts roll s
   pub passed : foundOf (r .finding) ≡ noFault → (r .state .items ≡ s .items + 1) × Reached board index′ ballots′ parents′ sessions′ (r .state)
   pub failed : (foundOf (r .finding) ≡ noFault → ⊥) → (r .state ≡ s) × (index′ ≡ index) × (ballots′ ≡ ballots) × (parents′ ≡ parents) × (sessions′ ≡ sessions)

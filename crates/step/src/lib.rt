@@ -1,7 +1,10 @@
 // One step of the audit: the item after those that passed is judged, and where it passes, the state and all tables go on behind it.
 ghost use mathlib.Core.Path.{_≡_};
 ghost use Prim.Native.Nat.{_+_, _<_};
+ghost use mathlib.Core.Bool.{not};
 ghost use lib.ListN.{length};
+ghost use lib.Dec.{T};
+ghost use Rattle.model.specs.Roll.{isBadRoll};
 ghost use Rattle.model.specs.Audit.{itemLimit};
 ghost use Rattle.index.specs.Known.{Passing};
 ghost use Rattle.step.specs.Steps.{Reached, Stepped};
@@ -42,6 +45,7 @@ fn pass(
 pub fn advance(
     board: &[u32],
     verdicts: &[u32],
+    roll: &[u32],
     index: &mut [u32],
     ballots: &mut [u32],
     parents: &mut [u32],
@@ -49,12 +53,12 @@ pub fn advance(
     s: State,
 ) -> Step
     requires { ⌜ Reached (now board) (now index) (now ballots) (now parents) (now sessions) s ⌝ }
-    requires { ⌜ (s .place < length (now board)) × (s .items < itemLimit) ⌝ }
-    ensures { λ r. ⌜ Stepped (now (board .entry)) (now (verdicts .entry))
+    requires { ⌜ (s .place < length (now board)) × (s .items < itemLimit) × (T (not (isBadRoll (now roll)))) ⌝ }
+    ensures { λ r. ⌜ Stepped (now (board .entry)) (now (verdicts .entry)) (now (roll .entry))
         (now (index .entry)) (now (ballots .entry)) (now (parents .entry)) (now (sessions .entry))
         (now (index .exit)) (now (ballots .exit)) (now (parents .exit)) (now (sessions .exit)) s r ⌝ }
 {
-    let judged = judge::judge(board, verdicts, index, ballots, parents, sessions, s);
+    let judged = judge::judge(board, verdicts, roll, index, ballots, parents, sessions, s);
     match judged {
         Judged::Passes(c) => {
             let state = pass(board, index, ballots, parents, sessions, s, c);

@@ -14,6 +14,7 @@ use Rattle.model.specs.Item as model
 use Rattle.model.specs.Format.{Format}
 use Rattle.model.specs.History.{History, Entry, absent, entry, itemNo, main, mainNumber, typed}
 use Rattle.model.specs.Counted.{Vote, voteOf, votesIn, sameVoter, counted, contents}
+use Rattle.model.specs.Roll.{Eligibility}
 use Rattle.model.specs.Sound.{Passed}
 use Rattle.model.specs.Audit.{ballotRow}
 use Rattle.model.proofs.Tests.{by-test, is-true}
@@ -92,7 +93,7 @@ cast-found {f} {h} e a t =
       content = ap (λ (k : ℕ). itemNo h k .content) number;
     }
 
-counted-found : {f : Format} {ws vs : List ℕ} {h : History} → Passed f ws vs h → Every (Found h) (counted h)
+counted-found : {f : Format} {on : Eligibility} {ws vs : List ℕ} {h : History} → Passed f on ws vs h → Every (Found h) (counted h)
 unfolding counted
 counted-found {h = h} b =
     every-latest sameVoter (Found h) (votesIn h h)

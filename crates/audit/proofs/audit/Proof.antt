@@ -11,8 +11,8 @@ returns : tie.Need-returns
 returns c =
     let start = c .before .before .before .before .before .before in
     let x = start .args in
-    audited-unread (x .board .now) (x .verdicts .now) (x .index .now) (x .ballots .now) _
-    (audit-large (x .board .now) (x .verdicts .now) (x .index .now) (x .ballots .now) (c .before .if1 .taken)) (c .refused .result)
+    audited-unread (x .board .now) (x .verdicts .now) (x .roll .now) (x .index .now) (x .ballots .now) _
+    (audit-large (x .board .now) (x .verdicts .now) (x .roll .now) (x .index .now) (x .ballots .now) (c .before .if1 .taken)) (c .refused .result)
     (c .refused .ensures)
 
 refused-requires-2 : tie.Need-refused-requires-2
@@ -22,8 +22,8 @@ returns-2 : tie.Need-returns-2
 returns-2 c =
     let start = c .before .before .before .before .before .before .before in
     let x = start .args in
-    audited-unread (x .board .now) (x .verdicts .now) (x .index .now) (x .ballots .now) _
-    (audit-short-index (x .board .now) (x .verdicts .now) (x .index .now) (x .ballots .now) (c .before .before .if1 .left) (c .before .if2 .taken)) (c .refused2 .result) (c .refused2 .ensures)
+    audited-unread (x .board .now) (x .verdicts .now) (x .roll .now) (x .index .now) (x .ballots .now) _
+    (audit-short-index (x .board .now) (x .verdicts .now) (x .roll .now) (x .index .now) (x .ballots .now) (c .before .before .if1 .left) (c .before .if2 .taken)) (c .refused2 .result) (c .refused2 .ensures)
 
 refused-requires-3 : tie.Need-refused-requires-3
 refused-requires-3 c κs = search needs
@@ -32,11 +32,11 @@ returns-3 : tie.Need-returns-3
 returns-3 c =
     let start = c .before .before .before .before .before .before .before .before in
     let x = start .args in
-    audited-unread (x .board .now) (x .verdicts .now) (x .index .now) (x .ballots .now) _
-    (audit-short-ballots (x .board .now) (x .verdicts .now) (x .index .now) (x .ballots .now) (c .before .before .before .if1 .left) (c .before .before .if2 .left) (c .before .if3 .taken)) (c .refused3 .result) (c .refused3 .ensures)
+    audited-unread (x .board .now) (x .verdicts .now) (x .roll .now) (x .index .now) (x .ballots .now) _
+    (audit-short-ballots (x .board .now) (x .verdicts .now) (x .roll .now) (x .index .now) (x .ballots .now) (c .before .before .before .if1 .left) (c .before .before .if2 .left) (c .before .if3 .taken)) (c .refused3 .result) (c .refused3 .ensures)
 
-read-requires : tie.Need-read-requires
-read-requires c κs = search needs
+start-requires : tie.Need-start-requires
+start-requires c κs = search needs
 
 same-length : tie.Need-same-length
 same-length c = search needs
@@ -57,7 +57,7 @@ audit-spec =
     returns-2
     refused-requires-3
     returns-3
-    read-requires
+    start-requires
     same-length
     same-length-2
     returns-4)

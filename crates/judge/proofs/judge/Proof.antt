@@ -36,7 +36,7 @@ row-is c =
 fit : (c : tie.Else1) → fits (countsOf (row (c .before) .counts)) (countOf (getD (start-fit c .args .board .now) (start-fit c .args .s .place) 0)) ≡ true
 fit c =
     let x = start-fit c .args in
-    count-met (x .board .now) (x .verdicts .now) (x .s) _ (c .before .before .before .before .before .before .of .ensures) (c .before .fits2 .ensures) (c .if1 .left)
+    count-met (x .board .now) (x .verdicts .now) (x .roll .now) (x .s) _ (c .before .before .before .before .before .before .of .ensures) (c .before .fits2 .ensures) (c .if1 .left)
 
 -- the item is at hand
 at-item : (c : tie.After-candidate)
@@ -48,12 +48,13 @@ at-item c =
 
 -- the first refusal that applies is what was found of it
 fault-is : (c : tie.After-item-finding)
-    → faultAfter (start-candidate (c .before) .args .board .now) (start-candidate (c .before) .args .verdicts .now) (start-candidate (c .before) .args .s)
+    → faultAfter (start-candidate (c .before) .args .board .now) (start-candidate (c .before) .args .verdicts .now)
+    (start-candidate (c .before) .args .roll .now) (start-candidate (c .before) .args .s)
     ≡ foundOf (c .item-finding .result)
 fault-is c =
     let p = start-candidate (c .before) .pre in
     let e = c .before .before .before .before .before in
-    judged-fault (p .0 .0) (p .0 .1) (p .1 .1 .1) (row (e .before)) (row-is (e .before)) (fit e) (c .before .before .before .before .at .ensures) (c .before .before .if2 .left) _ _
+    judged-fault (p .0 .0) (p .0 .1) (p .1 .1 .1) (row (e .before)) (row-is (e .before)) (fit e) (c .before .before .before .before .at .ensures) (c .before .before .if2 .left) _ _ _
     (c .item-finding .ensures)
 
 mul-of : tie.Need-mul-of
@@ -78,7 +79,7 @@ returns : tie.Need-returns
 returns c =
     let start = c .before .before .before .before .before .before .before .before .before .before .before in
     let x = start .args in
-    fault-unlisted (x .board .now) (x .verdicts .now) (x .s)
+    fault-unlisted (x .board .now) (x .verdicts .now) (x .roll .now) (x .s)
     (listed-row (x .board .now) (x .s) _ (c .before .before .before .of .ensures) (c .enum-told .given .1) (c .before .before .row-of .ensures))
 
 fits-requires : tie.Need-fits-requires
@@ -88,8 +89,8 @@ returns-2 : tie.Need-returns-2
 returns-2 c =
     let f = c .before in
     let x = start-fits f .args in
-    fault-count (x .board .now) (x .verdicts .now) (x .s) (row f) (row-is f)
-    (count-unmet (x .board .now) (x .verdicts .now) (x .s) _ (f .before .before .before .before .before .of .ensures) (f .fits2 .ensures) (c .if1 .taken))
+    fault-count (x .board .now) (x .verdicts .now) (x .roll .now) (x .s) (row f) (row-is f)
+    (count-unmet (x .board .now) (x .verdicts .now) (x .roll .now) (x .s) _ (f .before .before .before .before .before .of .ensures) (f .fits2 .ensures) (c .if1 .taken))
 
 at-requires : tie.Need-at-requires
 at-requires c κs = search needs
@@ -98,7 +99,7 @@ returns-3 : tie.Need-returns-3
 returns-3 c =
     let e = c .before .before .before in
     let x = start-fit e .args in
-    fault-past (x .board .now) (x .verdicts .now) (x .s) (row (e .before)) (row-is (e .before)) (fit e) (c .before .before .at .ensures) (c .if2 .taken)
+    fault-past (x .board .now) (x .verdicts .now) (x .roll .now) (x .s) (row (e .before)) (row-is (e .before)) (fit e) (c .before .before .at .ensures) (c .if2 .taken)
 
 candidate-requires : tie.Need-candidate-requires
 candidate-requires c κs =
@@ -108,7 +109,7 @@ candidate-requires c κs =
 item-finding-requires : tie.Need-item-finding-requires
 item-finding-requires c κs =
     let p = start-candidate c .pre in
-    ((at-item c, row-is (c .before .before .before .before .before)), (p .0 .2, p .1 .0 .1))
+    ((at-item c, row-is (c .before .before .before .before .before)), (p .0 .2, p .1 .0 .1), p .1 .1 .2)
 
 enum-told-2 : tie.Need-enum-told-2
 enum-told-2 c = search needs
@@ -123,7 +124,7 @@ returns-4 c =
     let e = i .before .before .before .before .before in
     let clean = fault-is i ∙ ap foundOf (c .enum-told2 .given .1) in (
       clean,
-      judged-passing (p .0 .0) (p .0 .1) (p .1 .1 .1) (row (e .before)) (row-is (e .before)) (fit e) (i .before .before .before .before .at .ensures) (i .before .before .if2 .left) _ _
+      judged-passing (p .0 .0) (p .0 .1) (p .1 .1 .1) (row (e .before)) (row-is (e .before)) (fit e) (i .before .before .before .before .at .ensures) (i .before .before .if2 .left) _ _ _
           (i .before .candidate .ensures) clean,
     )
 

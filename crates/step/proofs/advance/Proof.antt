@@ -16,7 +16,7 @@ pass-requires c κs =
     let start = at-judge .before .before .before .before .before .before .before .before .before .before .before in
     let x = start .args in (
       start .pre .0,
-      judged-passing (x .board .now) (x .verdicts .now) (x .index .now) (x .s) _ (at-judge .judge .ensures) _
+      judged-passing (x .board .now) (x .verdicts .now) (x .roll .now) (x .index .now) (x .s) _ (at-judge .judge .ensures) _
           (c .before .before .before .before .before .judged .given .1),
     )
 
@@ -42,7 +42,7 @@ returns c =
     let at-judge = at-judged .before .before in
     let start = at-judge .before .before .before .before .before .before .before .before .before .before .before in
     let x = start .args in
-    stepped-passes (x .board .now) (x .verdicts .now) (x .index .now) (x .s) _ (at-judge .judge .ensures) _
+    stepped-passes (x .board .now) (x .verdicts .now) (x .roll .now) (x .index .now) (x .s) _ (at-judge .judge .ensures) _
     (at-judged .judged .given .1) _ _ _ _ (at-pass .pass .ensures)
 
 same-length-5 : tie.Need-same-length-5
@@ -62,7 +62,7 @@ returns-2 c =
     let at-judge = c .before .before .before in
     let start = at-judge .before .before .before .before .before .before .before .before .before .before .before in
     let x = start .args in
-    stepped-fails (x .board .now) (x .verdicts .now) (x .index .now) (x .s) _ (at-judge .judge .ensures) _
+    stepped-fails (x .board .now) (x .verdicts .now) (x .roll .now) (x .index .now) (x .s) _ (at-judge .judge .ensures) _
     (c .before .judged2 .given .1) _ _ _
 
 pub advance-spec : {M : Type 1} → statement M

@@ -9,11 +9,11 @@ use Rattle.audit.proofs.run.run.Statement.{statement}
 use Rattle.audit.proofs.run.run.Tie as tie
 
 abbrev Inv-loop : tie.InvT-loop
-Inv-loop board verdicts index₀ ballots₀ parents₀ sessions₀ s₀ index ballots parents sessions s =
-    Going board verdicts index₀ ballots₀ parents₀ sessions₀ index ballots parents sessions s
+Inv-loop board verdicts roll index₀ ballots₀ parents₀ sessions₀ s₀ index ballots parents sessions s =
+    Going board verdicts roll index₀ ballots₀ parents₀ sessions₀ index ballots parents sessions s
 
 abbrev μ-loop : tie.MeasureT-loop
-μ-loop board verdicts index₀ ballots₀ parents₀ sessions₀ s₀ index ballots parents sessions s = itemLimit - s .items
+μ-loop board verdicts roll index₀ ballots₀ parents₀ sessions₀ s₀ index ballots parents sessions s = itemLimit - s .items
 
 new-requires : tie.Need-new-requires Inv-loop μ-loop
 new-requires c κs = search needs
@@ -22,7 +22,7 @@ loop-holds : tie.Need-loop-holds Inv-loop μ-loop
 loop-holds c =
     let start = c .before .before .before .before .before .before .before in
     let p = start .pre in
-    going-start _ _ (p .0 .0) (p .0 .1) (p .0 .2) (p .1) (c .new .ensures .0) (c .new .ensures .1 (start .args .board .now))
+    going-start _ _ _ (p .0 .0) (p .0 .1) (p .0 .2) (p .1 .0) (c .new .ensures .0) (c .new .ensures .1 (start .args .board .now))
 
 refused-requires : tie.Need-refused-requires Inv-loop μ-loop
 refused-requires c κs = c .before .loop .inv .reached .kept .few
@@ -43,7 +43,7 @@ returns : tie.Need-returns Inv-loop μ-loop
 returns c =
     let head = c .before .before in
     let start = head .before .before .before .before .before .before .before .before in
-    stop-ended (start .args .board .now) (start .args .verdicts .now) (head .loop .inv) (c .before .if1 .taken)
+    stop-ended (start .args .board .now) (start .args .verdicts .now) (start .args .roll .now) (head .loop .inv) (c .before .if1 .taken)
     (c .refused .result) (c .refused .ensures)
 
 mul-of : tie.Need-mul-of Inv-loop μ-loop
@@ -78,7 +78,7 @@ returns-2 c =
     let one = c .before .before .before .before .before .before .before in
     let head = one .before in
     let start = head .before .before .before .before .before .before .before .before in
-    stop-closing (start .args .board .now) (start .args .verdicts .now) (head .loop .inv) (one .if1 .left)
+    stop-closing (start .args .board .now) (start .args .verdicts .now) (start .args .roll .now) (head .loop .inv) (one .if1 .left)
     (c .before .before .before .before .before .of .ensures) (c .before .before .before .if2 .taken) (c .close .result) (c .close .ensures)
 
 refused-requires-2 : tie.Need-refused-requires-2 Inv-loop μ-loop
@@ -101,7 +101,7 @@ returns-3 c =
     let one = c .before .before .before .before .before .before .before in
     let head = one .before in
     let start = head .before .before .before .before .before .before .before .before in
-    stop-full (start .args .board .now) (start .args .verdicts .now) (head .loop .inv) (one .if1 .left)
+    stop-full (start .args .board .now) (start .args .verdicts .now) (start .args .roll .now) (head .loop .inv) (one .if1 .left)
     (c .before .before .before .before .before .of .ensures) (c .before .before .before .if2 .left) (c .before .if3 .taken)
     (c .refused2 .result) (c .refused2 .ensures)
 
@@ -151,7 +151,7 @@ returns-4 c =
     let start = head .before .before .before .before .before .before .before .before in
     let few = head .loop .inv .reached .kept .few in
     let more = three .if3 .left in
-    stop-refused (start .args .board .now) (start .args .verdicts .now) (head .loop .inv) (one .if1 .left) (at-of .of .ensures)
+    stop-refused (start .args .board .now) (start .args .verdicts .now) (start .args .roll .now) (head .loop .inv) (one .if1 .left) (at-of .of .ensures)
     (two .if2 .left) (omega arith) (at-advance .advance .ensures) _ (c .before .before .finding .given .1) (c .refused3 .result)
     (c .refused3 .ensures)
 
@@ -169,7 +169,7 @@ loop-less c =
     let start = head .before .before .before .before .before .before .before .before in
     let few = head .loop .inv .reached .kept .few in
     let more = three .if3 .left in
-    going-less (start .args .board .now) (start .args .verdicts .now) (head .loop .inv) (one .if1 .left) (at-of .of .ensures)
+    going-less (start .args .board .now) (start .args .verdicts .now) (start .args .roll .now) (head .loop .inv) (one .if1 .left) (at-of .of .ensures)
     (two .if2 .left) (omega arith) (at-advance .advance .ensures) (c .before .enum-told .given .1)
 
 loop-again : tie.Need-loop-again Inv-loop μ-loop
@@ -184,7 +184,7 @@ loop-again c =
     let few = head .loop .inv .reached .kept .few in
     let more = three .if3 .left in
     let lengths = at-advance .advance .kept .1 .1 in
-    going-on (start .args .board .now) (start .args .verdicts .now) (head .loop .inv) (one .if1 .left) (at-of .of .ensures) (two .if2 .left)
+    going-on (start .args .board .now) (start .args .verdicts .now) (start .args .roll .now) (head .loop .inv) (one .if1 .left) (at-of .of .ensures) (two .if2 .left)
     (omega arith) (at-advance .advance .ensures) (c .before .enum-told .given .1) (lengths .0) (lengths .1 .0) (lengths .1 .1 .0) (lengths .1 .1 .1 .0)
 
 pub run-spec : {M : Type 1} → statement M

@@ -43,35 +43,35 @@ address-ok-requires : tie.Need-address-ok-requires
 address-ok-requires c κs = at-own (c .before .before .pre .0)
 
 returns : tie.Need-returns
-returns c v =
+returns c on v =
     let start = c .before .before .before .before in
-    links-address _ _ v _ _ (unmet (c .before .address-ok .ensures ∙ ap (addressOk base) (at-read (start .pre .0))) (c .if1 .taken))
+    links-address _ on _ v _ _ (unmet (c .before .address-ok .ensures ∙ ap (addressOk base) (at-read (start .pre .0))) (c .if1 .taken))
 
 previous-ok-requires : tie.Need-previous-ok-requires
 previous-ok-requires c κs = search needs
 
 returns-2 : tie.Need-returns-2
-returns-2 c v = links-previous _ _ v _ _ (address-met (c .before .before)) (unmet (c .before .previous-ok .ensures) (c .if2 .taken))
+returns-2 c on v = links-previous _ on _ v _ _ (address-met (c .before .before)) (unmet (c .before .previous-ok .ensures) (c .if2 .taken))
 
 parent-ok-requires : tie.Need-parent-ok-requires
 parent-ok-requires c κs = search needs
 
 returns-3 : tie.Need-returns-3
-returns-3 c v =
-    links-parent _ _ v _ _ (address-met (c .before .before .before .before)) (previous-met (c .before .before))
+returns-3 c on v =
+    links-parent _ on _ v _ _ (address-met (c .before .before .before .before)) (previous-met (c .before .before))
     (unmet (c .before .parent-ok .ensures) (c .if3 .taken))
 
 time-ok-requires : tie.Need-time-ok-requires
 time-ok-requires c κs = search needs
 
 returns-4 : tie.Need-returns-4
-returns-4 c v =
-    links-time _ _ v _ _ (address-met (c .before .before .before .before .before .before))
+returns-4 c on v =
+    links-time _ on _ v _ _ (address-met (c .before .before .before .before .before .before))
     (previous-met (c .before .before .before .before)) (parent-met (c .before .before)) (unmet (c .before .time-ok .ensures) (c .if4 .taken))
 
 returns-5 : tie.Need-returns-5
-returns-5 c v =
-    links-met _ _ v _ _ (address-met (c .before .before .before .before .before .before)) (previous-met (c .before .before .before .before))
+returns-5 c on v =
+    links-met _ on _ v _ _ (address-met (c .before .before .before .before .before .before)) (previous-met (c .before .before .before .before))
     (parent-met (c .before .before)) (met (c .before .time-ok .ensures) (c .if4 .left))
 
 pub links-finding-spec : {M : Type 1} → statement M
