@@ -36,7 +36,9 @@ impl Content {
 
     pub const END: usize = Content::START + Item::TIME;
 
-    // A session: its weight and its contests.
+    // A session: its voter, its weight and its contests.
+    pub const VOTER: usize = 0;
+
     pub const WEIGHT: usize = 1;
 
     pub const SESSION_CONTESTS: usize = 2 + Size::KEY + Size::FINGERPRINT;

@@ -1,4 +1,4 @@
-// The limits of the paper, "Refusals and their order": how much a board may have, and how much a table must have room for.
+// The limits of the paper, "Refusals and their order": how much a board and a roll may have, and how much a table must have room for.
 ghost use mathlib.Core.Path.{_≡_};
 ghost use Rattle.format.specs.Limit.{limits};
 
@@ -8,6 +8,7 @@ pub struct Limit {
     pub counted: usize,
     pub index: usize,
     pub ballots: usize,
+    pub roll: usize,
 }
 
 impl Limit {
@@ -30,6 +31,11 @@ impl Limit {
 
     pub const BALLOTS: usize = Limit::BALLOT_ROW * Limit::COUNTED;
 
+    // Words of a pair of a roll, and pairs of a roll.
+    pub const ROLL_ROW: usize = 2;
+
+    pub const ROLL: usize = 2_048;
+
     // The limits together.
     pub fn all() -> Self
         ensures { λ r. ⌜ r ≡ limits ⌝ }
@@ -40,6 +46,7 @@ impl Limit {
             counted: Limit::COUNTED,
             index: Limit::INDEX,
             ballots: Limit::BALLOTS,
+            roll: Limit::ROLL,
         }
     }
 }
