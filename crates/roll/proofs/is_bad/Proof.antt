@@ -1,0 +1,29 @@
+-- `is_bad` meets its contract. Assumes nothing.
+use borrow.Author.Tests.{eq-eqb, ne-eqb, lt-ltb, le-ltb}
+use borrow.Author.Needs.{needs}
+use Rattle.model.specs.Roll.{isBadRoll}
+use Rattle.roll.proofs.Pairs.{pairs-length}
+use Rattle.roll.proofs.is_bad.Statement.{statement}
+use Rattle.roll.proofs.is_bad.Tie as tie
+
+returns : tie.Need-returns
+unfolding isBadRoll
+returns c = rw (ne-eqb _ _ (c .if1 .taken))
+
+returns-2 : tie.Need-returns-2
+unfolding isBadRoll
+returns-2 c =
+    let roll = c .before .before .before .args .roll .now in
+    rw (pairs-length roll, eq-eqb _ _ (c .before .if1 .left), lt-ltb _ _ (c .if2 .taken))
+
+is-rising-requires : tie.Need-is-rising-requires
+is-rising-requires c κs = search needs
+
+returns-3 : tie.Need-returns-3
+unfolding isBadRoll
+returns-3 c =
+    let roll = c .before .before .before .before .args .roll .now in
+    rw (c .is-rising .ensures, pairs-length roll, eq-eqb _ _ (c .before .before .if1 .left), le-ltb _ _ (c .before .if2 .left))
+
+pub is-bad-spec : {M : Type 1} → statement M
+is-bad-spec = tie.close (tie.spec returns returns-2 is-rising-requires returns-3)
