@@ -1,8 +1,8 @@
 // Checks 20 and 21: whether the roll is bad, and whether a session names a voter of the roll with that voter's weight. Paper: request (i).
 ghost use mathlib.Core.Path.{_≡_};
 ghost use mathlib.Core.Bool.{not};
-ghost use lib.Dec.{T};
 ghost use mathlib.Core.List.{map};
+ghost use lib.Dec.{T};
 ghost use Rattle.model.specs.Roll.{electors, rising, isBadRoll, onRoll, onRollOk};
 ghost use Rattle.index.specs.Kept.{itemAfter};
 ghost use Rattle.state.specs.Stands.{AtItem};
@@ -13,7 +13,7 @@ use format::limit::Limit;
 use index::Known;
 use state::State;
 
-// The pairs that halving looks at, at most: a roll has fewer than 2 ^ 12.
+// How many pairs halving looks at, at most: a roll has fewer than 2 ^ 12.
 const LOOKS: usize = 12;
 
 // Whether the roll is bad (20): an odd word count, too many pairs, or voter numbers that do not rise.
@@ -50,8 +50,8 @@ fn is_rising(roll: &[u32]) -> bool
     true
 }
 
-// Whether the roll has that voter with that weight. The voter is found by halving: at most 12 pairs are looked at. `looks` counts what is
-// left of them; that it never goes below 0 is proved.
+// Whether the roll has that voter with that weight. The voter is found by halving: at most 12 pairs are looked at. `looks` counts
+// down, and that it never goes below 0 is proved.
 fn has(roll: &[u32], voter: u32, weight: u32) -> bool
     requires { ⌜ T (not (isBadRoll (now roll))) ⌝ }
     ensures { λ r. ⌜ r ≡ onRoll (now (roll .entry)) voter weight ⌝ }

@@ -1,25 +1,22 @@
--- `has` meets its contract. The invariant: the voter is in what is left, or not on the roll. Assumes nothing.
-use Prim.Native.Nat.{_-_, _^_, _<_}
+-- `has` meets its contract. The invariant: the voter is in what is left, or not on the roll, and the looks suffice. Assumes nothing.
+use Prim.Native.Nat.{_-_}
 use native.Mathlib.Omega.{arith}
 use borrow.Author.Needs.{needs}
-use Rattle.roll.proofs.Pairs.{few-pairs}
-use Rattle.roll.proofs.Search.{Left, left-all, left-none, left-found, left-after, left-before, look-some, look-after, look-before}
+use Rattle.roll.proofs.Search.{Left, left-all, left-none, left-looks, left-found, left-after, left-before}
 use Rattle.roll.proofs.has.Statement.{statement}
 use Rattle.roll.proofs.has.Tie as tie
 
 abbrev Inv-loop : tie.InvT-loop
-Inv-loop roll voter weight looks₀ low₀ high₀ looks low high = Left roll voter low high × (high - low < 2 ^ looks)
+Inv-loop roll voter weight looks₀ low₀ high₀ looks low high = Left roll voter looks low high
 
 abbrev μ-loop : tie.MeasureT-loop
 μ-loop roll voter weight looks₀ low₀ high₀ looks low high = high - low
 
 loop-holds : tie.Need-loop-holds Inv-loop μ-loop
-loop-holds c = (left-all (c .args .roll .now) (c .args .voter), omega (arith, few-pairs (c .args .roll .now) (c .pre)))
+loop-holds c = left-all (c .args .roll .now) (c .args .voter) (c .pre)
 
 sub-looks : tie.Need-sub-looks Inv-loop μ-loop
-sub-looks c =
-    let l = c .before .loop in
-    look-some (l .low) (l .high) (l .looks) (c .loop-test .taken) (l .inv .1)
+sub-looks c = left-looks (c .before .loop .inv) (c .loop-test .taken)
 
 add-mid : tie.Need-add-mid Inv-loop μ-loop
 add-mid c = search needs
@@ -48,7 +45,7 @@ shared-slice-read-result c = search needs
 returns : tie.Need-returns Inv-loop μ-loop
 returns c =
     let l = c .before .before .before .before in
-    left-found (l .loop .inv .0) (l .before .pre) _ (omega arith) (c .before .if1 .taken) (l .before .args .weight)
+    left-found (l .loop .inv) (c .before .before .before .loop-test .taken) (l .before .pre) (c .before .if1 .taken) (l .before .args .weight)
 
 add-low : tie.Need-add-low Inv-loop μ-loop
 add-low c = search needs
@@ -59,7 +56,7 @@ loop-less c = search needs
 loop-again : tie.Need-loop-again Inv-loop μ-loop
 loop-again c =
     let l = c .before .before .before .before in
-    (left-after (l .loop .inv .0) (l .before .pre) _ (omega arith) (c .if2 .taken), look-after (l .loop .low) (l .loop .high) (l .loop .looks) (c .before .before .before .loop-test .taken) (l .loop .inv .1))
+    left-after (l .loop .inv) (c .before .before .before .loop-test .taken) (l .before .pre) (c .if2 .taken)
 
 loop-less-2 : tie.Need-loop-less-2 Inv-loop μ-loop
 loop-less-2 c = search needs
@@ -67,12 +64,12 @@ loop-less-2 c = search needs
 loop-again-2 : tie.Need-loop-again-2 Inv-loop μ-loop
 loop-again-2 c =
     let l = c .before .before .before .before in
-    (left-before (l .loop .inv .0) (l .before .pre) _ (omega arith) (omega (arith, c .if2 .left, c .before .if1 .left)), look-before (l .loop .low) (l .loop .high) (l .loop .looks) (c .before .before .before .loop-test .taken) (l .loop .inv .1))
+    left-before (l .loop .inv) (c .before .before .before .loop-test .taken) (l .before .pre) (omega (arith, c .if2 .left, c .before .if1 .left))
 
 returns-2 : tie.Need-returns-2 Inv-loop μ-loop
 returns-2 c =
     let l = c .before in
-    left-none (l .loop .inv .0) (c .loop-test .left) (l .before .args .weight)
+    left-none (l .loop .inv) (c .loop-test .left) (l .before .args .weight)
 
 pub has-spec : {M : Type 1} → statement M
 has-spec =
