@@ -35,6 +35,10 @@ pub chain-none : (bucket : ℕ → ℕ) → replicate chainWords 0 ≡ chain buc
 unfolding chain
 chain-none bucket = refl
 
+-- a roll that the test passes
+pub good-roll : (roll : List ℕ) → isBadRoll roll ≡ false → T (not (isBadRoll roll))
+good-roll roll q = rw q tt
+
 -- ---- the number of an answer
 
 pub refused-number : (r : Report) {x : Refusal} {k : ℕ} → r .answer ≡ Refused x k → reported r .number ≡ numberOf x

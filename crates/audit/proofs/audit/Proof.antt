@@ -9,7 +9,7 @@ refused-requires c κs = search needs
 
 returns : tie.Need-returns
 returns c =
-    let start = c .before .before .before .before .before .before in
+    let start = c .before .before .before .before .before .before .before in
     let x = start .args in
     audited-unread (x .board .now) (x .verdicts .now) (x .roll .now) (x .index .now) (x .ballots .now) _
     (audit-large (x .board .now) (x .verdicts .now) (x .roll .now) (x .index .now) (x .ballots .now) (c .before .if1 .taken)) (c .refused .result)
@@ -20,7 +20,7 @@ refused-requires-2 c κs = search needs
 
 returns-2 : tie.Need-returns-2
 returns-2 c =
-    let start = c .before .before .before .before .before .before .before in
+    let start = c .before .before .before .before .before .before .before .before in
     let x = start .args in
     audited-unread (x .board .now) (x .verdicts .now) (x .roll .now) (x .index .now) (x .ballots .now) _
     (audit-short-index (x .board .now) (x .verdicts .now) (x .roll .now) (x .index .now) (x .ballots .now) (c .before .before .if1 .left) (c .before .if2 .taken)) (c .refused2 .result) (c .refused2 .ensures)
@@ -30,7 +30,7 @@ refused-requires-3 c κs = search needs
 
 returns-3 : tie.Need-returns-3
 returns-3 c =
-    let start = c .before .before .before .before .before .before .before .before in
+    let start = c .before .before .before .before .before .before .before .before .before in
     let x = start .args in
     audited-unread (x .board .now) (x .verdicts .now) (x .roll .now) (x .index .now) (x .ballots .now) _
     (audit-short-ballots (x .board .now) (x .verdicts .now) (x .roll .now) (x .index .now) (x .ballots .now) (c .before .before .before .if1 .left) (c .before .before .if2 .left) (c .before .if3 .taken)) (c .refused3 .result) (c .refused3 .ensures)

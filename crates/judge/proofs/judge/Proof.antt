@@ -16,7 +16,7 @@ use Rattle.judge.proofs.judge.Tie as tie
 
 -- where each record of the walk began
 abbrev start-fits : tie.After-fits2 → tie.Start
-start-fits c = c .before .before .before .before .before .before .before .before .before .before .before .before .before
+start-fits c = c .before .before .before .before .before .before .before .before .before .before .before .before .before .before
 
 abbrev start-fit : tie.Else1 → tie.Start
 start-fit c = start-fits (c .before)
@@ -77,7 +77,7 @@ enum-told c = search needs
 
 returns : tie.Need-returns
 returns c =
-    let start = c .before .before .before .before .before .before .before .before .before .before .before in
+    let start = c .before .before .before .before .before .before .before .before .before .before .before .before in
     let x = start .args in
     fault-unlisted (x .board .now) (x .verdicts .now) (x .roll .now) (x .s)
     (listed-row (x .board .now) (x .s) _ (c .before .before .before .of .ensures) (c .enum-told .given .1) (c .before .before .row-of .ensures))
@@ -109,7 +109,7 @@ candidate-requires c κs =
 item-finding-requires : tie.Need-item-finding-requires
 item-finding-requires c κs =
     let p = start-candidate c .pre in
-    ((at-item c, row-is (c .before .before .before .before .before)), (p .0 .2, p .1 .0 .1), p .1 .1 .2)
+    ((at-item c, row-is (c .before .before .before .before .before)), ((p .0 .2, p .1 .0 .1), p .1 .1 .2))
 
 enum-told-2 : tie.Need-enum-told-2
 enum-told-2 c = search needs

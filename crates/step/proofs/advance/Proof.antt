@@ -13,7 +13,7 @@ enum-known-judged c = search needs
 pass-requires : tie.Need-pass-requires
 pass-requires c κs =
     let at-judge = c .before .before .before .before .before .before .before in
-    let start = at-judge .before .before .before .before .before .before .before .before .before .before .before in
+    let start = at-judge .before .before .before .before .before .before .before .before .before .before .before .before in
     let x = start .args in (
       start .pre .0,
       judged-passing (x .board .now) (x .verdicts .now) (x .roll .now) (x .index .now) (x .s) _ (at-judge .judge .ensures) _
@@ -40,7 +40,7 @@ returns c =
     let at-pass = c .before .before .before .before .before .before .before .before in
     let at-judged = at-pass .before .before .before .before .before .before in
     let at-judge = at-judged .before .before in
-    let start = at-judge .before .before .before .before .before .before .before .before .before .before .before in
+    let start = at-judge .before .before .before .before .before .before .before .before .before .before .before .before in
     let x = start .args in
     stepped-passes (x .board .now) (x .verdicts .now) (x .roll .now) (x .index .now) (x .s) _ (at-judge .judge .ensures) _
     (at-judged .judged .given .1) _ _ _ _ (at-pass .pass .ensures)
@@ -60,7 +60,7 @@ same-length-8 c = search needs
 returns-2 : tie.Need-returns-2
 returns-2 c =
     let at-judge = c .before .before .before in
-    let start = at-judge .before .before .before .before .before .before .before .before .before .before .before in
+    let start = at-judge .before .before .before .before .before .before .before .before .before .before .before .before in
     let x = start .args in
     stepped-fails (x .board .now) (x .verdicts .now) (x .roll .now) (x .index .now) (x .s) _ (at-judge .judge .ensures) _
     (c .before .judged2 .given .1) _ _ _

@@ -26,7 +26,7 @@ same-length-2 c = search needs
 returns : tie.Need-returns
 returns c =
     let at-clear = c .before .before .before .before .before .before .before .before .before in
-    let start = at-clear .before .before .before .before .before .before in
+    let start = at-clear .before .before .before .before .before .before .before in
     let x = start .args in
     audited-empty (x .board .now) (x .verdicts .now) (x .roll .now) (x .index .now) (x .ballots .now) (start .pre .0) (start .pre .1)
     (sym (c .before .before .is-empty .ensures) ∙ c .before .if1 .taken) (c .refused .result) (c .refused .ensures)
@@ -42,11 +42,10 @@ run-requires : tie.Need-run-requires
 run-requires c κs =
     let at-clear2 = c .before .before .before .before .before .before .before .before in
     let at-clear = at-clear2 .before .before .before .before in
-    let start = at-clear .before .before .before .before .before .before in
+    let start = at-clear .before .before .before .before .before .before .before in
     let x = start .args in (
       cleared-zeros (x .board .now) (x .verdicts .now) (x .roll .now) (x .index .now) (x .ballots .now) (start .pre .0) _ _ (at-clear .clear .ensures) (at-clear2 .clear2 .ensures),
-      (chain-none _, chain-none _),
-      start .pre .1,
+      ((chain-none _, chain-none _), start .pre .1),
     )
 
 enum-told : tie.Need-enum-told
@@ -76,13 +75,13 @@ returns-2 c =
     let at-is-empty = one .before in
     let at-clear2 = at-is-empty .before .before .before in
     let at-clear = at-clear2 .before .before .before .before in
-    let start = at-clear .before .before .before .before .before .before in
+    let start = at-clear .before .before .before .before .before .before .before in
     let x = start .args in
     audited-cleared (x .board .now) (x .verdicts .now) (x .roll .now) (x .index .now) (x .ballots .now) (start .pre .0) (start .pre .1)
     (sym (at-is-empty .is-empty .ensures) ∙ one .if1 .left) _ _ (at-run .run .ensures .1)
     (at-run .run .result) (at-run .run .ensures .0) (at-enum-told .enum-told .given .1) _ _
-    (at-clear3 .clear3 .ensures) (c .before .before .clear4 .ensures) (at-run .run .kept .1 .1 .0 ∙ at-clear .clear .kept .0)
-    (at-run .run .kept .1 .1 .1 .0 ∙ at-clear2 .clear2 .kept .0)
+    (at-clear3 .clear3 .ensures) (c .before .before .clear4 .ensures) (at-run .run .kept .1 .1 .1 .0 ∙ at-clear .clear .kept .0)
+    (at-run .run .kept .1 .1 .1 .1 .0 ∙ at-clear2 .clear2 .kept .0)
 
 same-length-5 : tie.Need-same-length-5
 same-length-5 c = search needs
@@ -97,12 +96,12 @@ returns-3 c =
     let at-is-empty = one .before in
     let at-clear2 = at-is-empty .before .before .before in
     let at-clear = at-clear2 .before .before .before .before in
-    let start = at-clear .before .before .before .before .before .before in
+    let start = at-clear .before .before .before .before .before .before .before in
     let x = start .args in
     audited-filled (x .board .now) (x .verdicts .now) (x .roll .now) (x .index .now) (x .ballots .now) (start .pre .0) (start .pre .1)
     (sym (at-is-empty .is-empty .ensures) ∙ one .if1 .left) _ _ (at-run .run .ensures .1)
     (at-run .run .result) (at-run .run .ensures .0) (c .enum-told2 .given .1)
-    (at-run .run .kept .1 .1 .0 ∙ at-clear .clear .kept .0) (at-run .run .kept .1 .1 .1 .0 ∙ at-clear2 .clear2 .kept .0)
+    (at-run .run .kept .1 .1 .1 .0 ∙ at-clear .clear .kept .0) (at-run .run .kept .1 .1 .1 .1 .0 ∙ at-clear2 .clear2 .kept .0)
 
 pub read-spec : {M : Type 1} → statement M
 read-spec =

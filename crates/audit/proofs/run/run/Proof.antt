@@ -20,7 +20,7 @@ new-requires c κs = search needs
 
 loop-holds : tie.Need-loop-holds Inv-loop μ-loop
 loop-holds c =
-    let start = c .before .before .before .before .before .before .before in
+    let start = c .before .before .before .before .before .before .before .before in
     let p = start .pre in
     going-start _ _ _ (p .0 .0) (p .0 .1) (p .0 .2) (p .1 .0) (c .new .ensures .0) (c .new .ensures .1 (start .args .board .now))
 
@@ -42,7 +42,7 @@ same-length-4 c = c .before .before .loop .inv .sessions-size
 returns : tie.Need-returns Inv-loop μ-loop
 returns c =
     let head = c .before .before in
-    let start = head .before .before .before .before .before .before .before .before in
+    let start = head .before .before .before .before .before .before .before .before .before in
     stop-ended (start .args .board .now) (start .args .verdicts .now) (start .args .roll .now) (head .loop .inv) (c .before .if1 .taken)
     (c .refused .result) (c .refused .ensures)
 
@@ -77,7 +77,7 @@ returns-2 : tie.Need-returns-2 Inv-loop μ-loop
 returns-2 c =
     let one = c .before .before .before .before .before .before .before in
     let head = one .before in
-    let start = head .before .before .before .before .before .before .before .before in
+    let start = head .before .before .before .before .before .before .before .before .before in
     stop-closing (start .args .board .now) (start .args .verdicts .now) (start .args .roll .now) (head .loop .inv) (one .if1 .left)
     (c .before .before .before .before .before .of .ensures) (c .before .before .before .if2 .taken) (c .close .result) (c .close .ensures)
 
@@ -100,7 +100,7 @@ returns-3 : tie.Need-returns-3 Inv-loop μ-loop
 returns-3 c =
     let one = c .before .before .before .before .before .before .before in
     let head = one .before in
-    let start = head .before .before .before .before .before .before .before .before in
+    let start = head .before .before .before .before .before .before .before .before .before in
     stop-full (start .args .board .now) (start .args .verdicts .now) (start .args .roll .now) (head .loop .inv) (one .if1 .left)
     (c .before .before .before .before .before .of .ensures) (c .before .before .before .if2 .left) (c .before .if3 .taken)
     (c .refused2 .result) (c .refused2 .ensures)
@@ -110,9 +110,10 @@ advance-requires c κs =
     let three = c .before .before .before .before in
     let one = three .before .before .before .before .before .before in
     let head = one .before in
+    let start = head .before .before .before .before .before .before .before .before .before in
     let few = head .loop .inv .reached .kept .few in
     let more = three .if3 .left in
-    (head .loop .inv .reached, (one .if1 .left, omega arith))
+    (head .loop .inv .reached, (one .if1 .left, omega arith, start .pre .1 .1))
 
 enum-known-finding : tie.Need-enum-known-finding Inv-loop μ-loop
 enum-known-finding c = search needs
@@ -129,16 +130,16 @@ abbrev advanced : tie.After-refused3 Inv-loop μ-loop → tie.After-advance Inv-
 advanced c = c .before .before .before .before .before .before .before .before .before .before .before .before
 
 same-length-13 : tie.Need-same-length-13 Inv-loop μ-loop
-same-length-13 c = advanced c .advance .kept .1 .1 .0 ∙ head-of (advanced c) .loop .inv .index-size
+same-length-13 c = advanced c .advance .kept .1 .1 .1 .0 ∙ head-of (advanced c) .loop .inv .index-size
 
 same-length-14 : tie.Need-same-length-14 Inv-loop μ-loop
-same-length-14 c = advanced c .advance .kept .1 .1 .1 .0 ∙ head-of (advanced c) .loop .inv .ballots-size
+same-length-14 c = advanced c .advance .kept .1 .1 .1 .1 .0 ∙ head-of (advanced c) .loop .inv .ballots-size
 
 same-length-15 : tie.Need-same-length-15 Inv-loop μ-loop
-same-length-15 c = advanced c .advance .kept .1 .1 .1 .1 .0 ∙ head-of (advanced c) .loop .inv .parents-size
+same-length-15 c = advanced c .advance .kept .1 .1 .1 .1 .1 .0 ∙ head-of (advanced c) .loop .inv .parents-size
 
 same-length-16 : tie.Need-same-length-16 Inv-loop μ-loop
-same-length-16 c = advanced c .advance .kept .1 .1 .1 .1 .1 .0 ∙ head-of (advanced c) .loop .inv .sessions-size
+same-length-16 c = advanced c .advance .kept .1 .1 .1 .1 .1 .1 .0 ∙ head-of (advanced c) .loop .inv .sessions-size
 
 returns-4 : tie.Need-returns-4 Inv-loop μ-loop
 returns-4 c =
@@ -148,7 +149,7 @@ returns-4 c =
     let at-of = two .before .before in
     let one = at-of .before .before in
     let head = one .before in
-    let start = head .before .before .before .before .before .before .before .before in
+    let start = head .before .before .before .before .before .before .before .before .before in
     let few = head .loop .inv .reached .kept .few in
     let more = three .if3 .left in
     stop-refused (start .args .board .now) (start .args .verdicts .now) (start .args .roll .now) (head .loop .inv) (one .if1 .left) (at-of .of .ensures)
@@ -166,7 +167,7 @@ loop-less c =
     let at-of = two .before .before in
     let one = at-of .before .before in
     let head = one .before in
-    let start = head .before .before .before .before .before .before .before .before in
+    let start = head .before .before .before .before .before .before .before .before .before in
     let few = head .loop .inv .reached .kept .few in
     let more = three .if3 .left in
     going-less (start .args .board .now) (start .args .verdicts .now) (start .args .roll .now) (head .loop .inv) (one .if1 .left) (at-of .of .ensures)
@@ -180,10 +181,10 @@ loop-again c =
     let at-of = two .before .before in
     let one = at-of .before .before in
     let head = one .before in
-    let start = head .before .before .before .before .before .before .before .before in
+    let start = head .before .before .before .before .before .before .before .before .before in
     let few = head .loop .inv .reached .kept .few in
     let more = three .if3 .left in
-    let lengths = at-advance .advance .kept .1 .1 in
+    let lengths = at-advance .advance .kept .1 .1 .1 in
     going-on (start .args .board .now) (start .args .verdicts .now) (start .args .roll .now) (head .loop .inv) (one .if1 .left) (at-of .of .ensures) (two .if2 .left)
     (omega arith) (at-advance .advance .ensures) (c .before .enum-told .given .1) (lengths .0) (lengths .1 .0) (lengths .1 .1 .0) (lengths .1 .1 .1 .0)
 
