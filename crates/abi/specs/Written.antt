@@ -34,9 +34,9 @@ pub record AuditWritten (outcome : Outcome) (index ballots answer : List ℕ) (t
   pub ballotRows : ballots′ ≡ cond (hasRoom auditSize answer) (ballotsAfter outcome ballots) ballots
 
 -- of what the caller passed
-abbrev pub Audited : {A B : Type 0} → Slice A → Slice B → Buffer → Buffer → Buffer → Bool → Type 0
-Audited board verdicts index ballots answer told =
-    AuditWritten (outcomeOf board verdicts index ballots)
+abbrev pub Audited : {A B C : Type 0} → Slice A → Slice B → Slice C → Buffer → Buffer → Buffer → Bool → Type 0
+Audited board verdicts roll index ballots answer told =
+    AuditWritten (outcomeOf board verdicts roll index ballots)
     (now (index .entry)) (now (ballots .entry)) (now (answer .entry)) told
     (now (index .exit)) (now (ballots .exit)) (now (answer .exit))
 
@@ -54,9 +54,10 @@ pub record ComparisonWritten (kept later : Outcome) (number : ℕ) (keptIndex ke
   pub laterBallotRows : laterBallots′ ≡ cond (hasRoom compareSize answer) (laterBallotsAfter kept later laterBallots) laterBallots
 
 -- of what the caller passed: the kept board's, then the later one's
-abbrev pub Compared : {A B C D : Type 0} → Slice A → Slice B → Buffer → Buffer → Slice C → Slice D → Buffer → Buffer → ℕ → Buffer → Bool → Type 0
-Compared kept keptVerdicts keptIndex keptBallots later laterVerdicts laterIndex laterBallots number answer told =
-    ComparisonWritten (outcomeOf kept keptVerdicts keptIndex keptBallots) (outcomeOf later laterVerdicts laterIndex laterBallots) number
+abbrev pub Compared : {A B C D E F : Type 0} → Slice A → Slice B → Slice C → Buffer → Buffer
+    → Slice D → Slice E → Slice F → Buffer → Buffer → ℕ → Buffer → Bool → Type 0
+Compared kept keptVerdicts keptRoll keptIndex keptBallots later laterVerdicts laterRoll laterIndex laterBallots number answer told =
+    ComparisonWritten (outcomeOf kept keptVerdicts keptRoll keptIndex keptBallots) (outcomeOf later laterVerdicts laterRoll laterIndex laterBallots) number
     (now (keptIndex .entry)) (now (keptBallots .entry)) (now (laterIndex .entry)) (now (laterBallots .entry)) (now (answer .entry)) told
     (now (keptIndex .exit)) (now (keptBallots .exit)) (now (laterIndex .exit)) (now (laterBallots .exit)) (now (answer .exit))
 
@@ -73,8 +74,8 @@ pub record ListingWritten (outcome : Outcome) (number : ℕ) (index ballots list
   pub numbers : list′ ≡ cond (hasRoom ancestrySize answer) (listAfter outcome number list) list
 
 -- of what the caller passed
-abbrev pub Listed : {A B : Type 0} → Slice A → Slice B → ℕ → Buffer → Buffer → Buffer → Buffer → Bool → Type 0
-Listed board verdicts number index ballots list answer told =
-    ListingWritten (listingOutcome board verdicts index ballots list) number
+abbrev pub Listed : {A B C : Type 0} → Slice A → Slice B → Slice C → ℕ → Buffer → Buffer → Buffer → Buffer → Bool → Type 0
+Listed board verdicts roll number index ballots list answer told =
+    ListingWritten (listingOutcome board verdicts roll index ballots list) number
     (now (index .entry)) (now (ballots .entry)) (now (list .entry)) (now (answer .entry)) told
     (now (index .exit)) (now (ballots .exit)) (now (list .exit)) (now (answer .exit))

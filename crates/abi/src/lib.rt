@@ -5,34 +5,37 @@ use answers::Size;
 use entries::comparing;
 use entries::listing;
 
-// Audits a board with its verdict words, writes the report into the first 14 words of the answer and the rows into the tables, and returns
+// Audits a board with its verdict words and the roll of its voters, writes the report into the first 14 words of the answer and the rows into the tables, and returns
 // true, of a refusal too. Where the answer is shorter, returns false and writes nothing.
 #[no_mangle]
 pub extern "C" fn tirfolma_audit(
     board: &[u32],
     verdicts: &[u32],
+    roll: &[u32],
     index: &mut [u32],
     ballots: &mut [u32],
     answer: &mut [u32],
 ) -> bool
-    ensures { λ r. ⌜ Audited board verdicts index ballots answer r ⌝ }
+    ensures { λ r. ⌜ Audited board verdicts roll index ballots answer r ⌝ }
 {
     if answer.len() < Size::AUDIT {
         return false;
     }
-    let report = audit::audit(board, verdicts, index, ballots);
+    let report = audit::audit(board, verdicts, roll, index, ballots);
     answers::put_report(report, answer);
     true
 }
 
-// Audits a kept board and a later one, each with its own tables, compares them at a main number of the later one, writes what is found into
+// Audits a kept board and a later one, each with its own roll and tables, compares them at a main number of the later one, writes what is found into
 // the first 6 words of the answer, and returns true. Where the answer is shorter, returns false and writes nothing.
 #[no_mangle]
 pub extern "C" fn tirfolma_compare(
     kept: &[u32],
     kept_verdicts: &[u32],
+    kept_roll: &[u32],
     later: &[u32],
     later_verdicts: &[u32],
+    later_roll: &[u32],
     number: usize,
     kept_index: &mut [u32],
     kept_ballots: &mut [u32],
@@ -40,8 +43,8 @@ pub extern "C" fn tirfolma_compare(
     later_ballots: &mut [u32],
     answer: &mut [u32],
 ) -> bool
-    ensures { λ r. ⌜ Compared kept «kept_verdicts» «kept_index» «kept_ballots»
-        later «later_verdicts» «later_index» «later_ballots» number answer r ⌝ }
+    ensures { λ r. ⌜ Compared kept «kept_verdicts» «kept_roll» «kept_index» «kept_ballots»
+        later «later_verdicts» «later_roll» «later_index» «later_ballots» number answer r ⌝ }
 {
     if answer.len() < Size::COMPARE {
         return false;
@@ -49,8 +52,10 @@ pub extern "C" fn tirfolma_compare(
     let comparison = comparing::compare(
         kept,
         kept_verdicts,
+        kept_roll,
         later,
         later_verdicts,
+        later_roll,
         number,
         kept_index,
         kept_ballots,
@@ -67,18 +72,19 @@ pub extern "C" fn tirfolma_compare(
 pub extern "C" fn tirfolma_ancestry(
     board: &[u32],
     verdicts: &[u32],
+    roll: &[u32],
     number: usize,
     index: &mut [u32],
     ballots: &mut [u32],
     list: &mut [u32],
     answer: &mut [u32],
 ) -> bool
-    ensures { λ r. ⌜ Listed board verdicts number index ballots list answer r ⌝ }
+    ensures { λ r. ⌜ Listed board verdicts roll number index ballots list answer r ⌝ }
 {
     if answer.len() < Size::ANCESTRY {
         return false;
     }
-    let listing = listing::ancestry(board, verdicts, number, index, ballots, list);
+    let listing = listing::ancestry(board, verdicts, roll, number, index, ballots, list);
     answers::put_listing(listing, answer);
     true
 }

@@ -10,7 +10,7 @@ use report::Answer;
 // The boards, numbered from 0.
 const BOARDS: usize = 116;
 
-// Words that a board or its verdicts may have here.
+// Words that a board, its verdicts or its roll may have here.
 const ROOM: usize = 16_384;
 
 // The last digit of a number, in decimal.
@@ -109,35 +109,44 @@ fn run(n: usize) {
         b's',
     ];
     let more = words_in(&beside, &mut verdicts);
+    let mut roll = [0u32; ROOM];
+    let third = [a, b, c, b'.', b'r', b'o', b'l', b'l'];
+    let pairs = words_in(&third, &mut roll);
     let mut index = [0u32; Limit::INDEX];
     let mut ballots = [0u32; Limit::BALLOTS];
-    let r = audit::audit(&board[..words], &verdicts[..more], &mut index, &mut ballots);
+    let r = audit::audit(
+        &board[..words],
+        &verdicts[..more],
+        &roll[..pairs],
+        &mut index,
+        &mut ballots,
+    );
     let answer = r.answer;
     print_report(answer, &ballots);
 }
 
-// A board past the word limit.
+// A board past the word limit. The roll is bad, too, which comes later.
 fn run_large() {
     let board = [0u32; Limit::WORDS + 1];
     let verdicts = [0u32; 1];
     let mut index = [0u32; Limit::INDEX];
     let mut ballots = [0u32; Limit::BALLOTS];
-    let r = audit::audit(&board, &verdicts, &mut index, &mut ballots);
+    let r = audit::audit(&board, &verdicts, &verdicts, &mut index, &mut ballots);
     let answer = r.answer;
     print_report(answer, &ballots);
 }
 
-// Tables that are a word too short: the index table, then the ballot table.
+// Tables that are a word too short: the index table, then the ballot table. The roll is bad, too, which comes later.
 fn run_short() {
     let board = [0u32; 1];
     let mut short = [0u32; Limit::INDEX - 1];
     let mut index = [0u32; Limit::INDEX];
     let mut ballots = [0u32; Limit::BALLOTS];
     let mut shorter = [0u32; Limit::BALLOTS - 1];
-    let r = audit::audit(&board, &board, &mut short, &mut ballots);
+    let r = audit::audit(&board, &board, &board, &mut short, &mut ballots);
     let answer = r.answer;
     print_report(answer, &ballots);
-    let q = audit::audit(&board, &board, &mut index, &mut shorter);
+    let q = audit::audit(&board, &board, &board, &mut index, &mut shorter);
     let other = q.answer;
     print_report(other, &shorter);
 }

@@ -18,15 +18,15 @@ use Rattle.audit.proofs.Laws.{accepted-sound, accepted-kept, accepted-mains, Re
 use Rattle.compare.specs.Answer.{Accepted}
 
 -- what is known of a board that was accepted
-pub accepted-board : (board verdicts index ballots : List ℕ) (r : Report) {i b : List ℕ} → Audited board verdicts index ballots r i b
+pub accepted-board : (board verdicts roll index ballots : List ℕ) (r : Report) {i b : List ℕ} → Audited board verdicts roll index ballots r i b
     → {items mains n weight : ℕ} → r .answer ≡ answer.Accepted items mains n weight → Accepted board i items mains
-accepted-board board verdicts index ballots r audited {items} {mains} e =
+accepted-board board verdicts roll index ballots r audited {items} {mains} e =
     let h = before board items in
-    let sound = accepted-sound board verdicts index ballots r audited e in
-    let all : mains ≡ count main h = accepted-mains board verdicts index ballots r audited e in
+    let sound = accepted-sound board verdicts roll index ballots r audited e in
+    let all : mains ≡ count main h = accepted-mains board verdicts roll index ballots r audited e in
     let opened = main-opened h (orderly (sound .passed)) (sound .opened) in
     record {
-      kept = accepted-kept board verdicts index ballots r audited e;
+      kept = accepted-kept board verdicts roll index ballots r audited e;
       mains = all;
       opened = omega (arith, count-keep main (λ e. e .item) h);
     }

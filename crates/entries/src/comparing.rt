@@ -17,19 +17,26 @@ fn compare_later(
     kept_mains: u32,
     later: &[u32],
     later_verdicts: &[u32],
+    later_roll: &[u32],
     number: usize,
     later_index: &mut [u32],
     later_ballots: &mut [u32],
 ) -> Comparison
     requires { ⌜ Accepted (now kept) (now «kept_index») «kept_items» «kept_mains» ⌝ }
     ensures answer { λ r. ⌜ answerOf r ≡ answerLater (before (now (kept .entry)) «kept_items»)
-        (outcomeOf later «later_verdicts» «later_index» «later_ballots») number ⌝ }
+        (outcomeOf later «later_verdicts» «later_roll» «later_index» «later_ballots») number ⌝ }
     ensures index { λ _. ⌜ now («later_index» .exit)
-        ≡ indexAfter (outcomeOf later «later_verdicts» «later_index» «later_ballots») (now («later_index» .entry)) ⌝ }
+        ≡ indexAfter (outcomeOf later «later_verdicts» «later_roll» «later_index» «later_ballots») (now («later_index» .entry)) ⌝ }
     ensures ballots { λ _. ⌜ now («later_ballots» .exit)
-        ≡ ballotsAfter (outcomeOf later «later_verdicts» «later_index» «later_ballots») (now («later_ballots» .entry)) ⌝ }
+        ≡ ballotsAfter (outcomeOf later «later_verdicts» «later_roll» «later_index» «later_ballots») (now («later_ballots» .entry)) ⌝ }
 {
-    let r = audit::audit(later, later_verdicts, later_index, later_ballots);
+    let r = audit::audit(
+        later,
+        later_verdicts,
+        later_roll,
+        later_index,
+        later_ballots,
+    );
     let answer = r.answer;
     match answer {
         Answer::Refused { refusal, items } => Comparison::Refused {
@@ -56,14 +63,16 @@ fn compare_later(
     }
 }
 
-// Audits the kept board and then the later one, each with its own tables, and compares all main items of the kept board with those of the
+// Audits the kept board and then the later one, each with its own roll and tables, and compares all main items of the kept board with those of the
 // later one up to a main number. A refusal names its board and stops there: the later board's tables are unchanged if the kept one is
 // refused, and the kept board's stay filled whatever comes after it.
 pub fn compare(
     kept: &[u32],
     kept_verdicts: &[u32],
+    kept_roll: &[u32],
     later: &[u32],
     later_verdicts: &[u32],
+    later_roll: &[u32],
     number: usize,
     kept_index: &mut [u32],
     kept_ballots: &mut [u32],
@@ -71,20 +80,20 @@ pub fn compare(
     later_ballots: &mut [u32],
 ) -> Comparison
     ensures answer { λ r. ⌜ answerOf r ≡ comparingAnswer
-        (outcomeOf kept «kept_verdicts» «kept_index» «kept_ballots»)
-        (outcomeOf later «later_verdicts» «later_index» «later_ballots») number ⌝ }
+        (outcomeOf kept «kept_verdicts» «kept_roll» «kept_index» «kept_ballots»)
+        (outcomeOf later «later_verdicts» «later_roll» «later_index» «later_ballots») number ⌝ }
     ensures kept_index { λ _. ⌜ now («kept_index» .exit)
-        ≡ indexAfter (outcomeOf kept «kept_verdicts» «kept_index» «kept_ballots») (now («kept_index» .entry)) ⌝ }
+        ≡ indexAfter (outcomeOf kept «kept_verdicts» «kept_roll» «kept_index» «kept_ballots») (now («kept_index» .entry)) ⌝ }
     ensures kept_ballots { λ _. ⌜ now («kept_ballots» .exit)
-        ≡ ballotsAfter (outcomeOf kept «kept_verdicts» «kept_index» «kept_ballots») (now («kept_ballots» .entry)) ⌝ }
+        ≡ ballotsAfter (outcomeOf kept «kept_verdicts» «kept_roll» «kept_index» «kept_ballots») (now («kept_ballots» .entry)) ⌝ }
     ensures later_index { λ _. ⌜ now («later_index» .exit) ≡ laterIndexAfter
-        (outcomeOf kept «kept_verdicts» «kept_index» «kept_ballots»)
-        (outcomeOf later «later_verdicts» «later_index» «later_ballots») (now («later_index» .entry)) ⌝ }
+        (outcomeOf kept «kept_verdicts» «kept_roll» «kept_index» «kept_ballots»)
+        (outcomeOf later «later_verdicts» «later_roll» «later_index» «later_ballots») (now («later_index» .entry)) ⌝ }
     ensures later_ballots { λ _. ⌜ now («later_ballots» .exit) ≡ laterBallotsAfter
-        (outcomeOf kept «kept_verdicts» «kept_index» «kept_ballots»)
-        (outcomeOf later «later_verdicts» «later_index» «later_ballots») (now («later_ballots» .entry)) ⌝ }
+        (outcomeOf kept «kept_verdicts» «kept_roll» «kept_index» «kept_ballots»)
+        (outcomeOf later «later_verdicts» «later_roll» «later_index» «later_ballots») (now («later_ballots» .entry)) ⌝ }
 {
-    let r = audit::audit(kept, kept_verdicts, kept_index, kept_ballots);
+    let r = audit::audit(kept, kept_verdicts, kept_roll, kept_index, kept_ballots);
     let answer = r.answer;
     match answer {
         Answer::Refused { refusal, items } => Comparison::Refused {
@@ -104,6 +113,7 @@ pub fn compare(
             mains,
             later,
             later_verdicts,
+            later_roll,
             number,
             later_index,
             later_ballots,

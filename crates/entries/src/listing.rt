@@ -27,19 +27,20 @@ fn is_short(index: &[u32], ballots: &[u32], list: &[u32]) -> bool
 fn list_audited(
     board: &[u32],
     verdicts: &[u32],
+    roll: &[u32],
     number: usize,
     index: &mut [u32],
     ballots: &mut [u32],
     list: &mut [u32],
 ) -> Listing
     requires { ⌜ Sized (now board) (now index) (now ballots) (now list) ⌝ }
-    ensures answer { λ r. ⌜ answerOf r ≡ ancestryAnswer (outcomeOf board verdicts index ballots) number ⌝ }
-    ensures index { λ _. ⌜ now (index .exit) ≡ indexAfter (outcomeOf board verdicts index ballots) (now (index .entry)) ⌝ }
-    ensures ballots { λ _. ⌜ now (ballots .exit) ≡ ballotsAfter (outcomeOf board verdicts index ballots) (now (ballots .entry)) ⌝ }
-    ensures list { λ _. ⌜ now (list .exit) ≡ listAfter (outcomeOf board verdicts index ballots) number (now (list .entry)) ⌝ }
+    ensures answer { λ r. ⌜ answerOf r ≡ ancestryAnswer (outcomeOf board verdicts roll index ballots) number ⌝ }
+    ensures index { λ _. ⌜ now (index .exit) ≡ indexAfter (outcomeOf board verdicts roll index ballots) (now (index .entry)) ⌝ }
+    ensures ballots { λ _. ⌜ now (ballots .exit) ≡ ballotsAfter (outcomeOf board verdicts roll index ballots) (now (ballots .entry)) ⌝ }
+    ensures list { λ _. ⌜ now (list .exit) ≡ listAfter (outcomeOf board verdicts roll index ballots) number (now (list .entry)) ⌝ }
 {
     words::clear(list);
-    let r = audit::audit(board, verdicts, index, ballots);
+    let r = audit::audit(board, verdicts, roll, index, ballots);
     let answer = r.answer;
     match answer {
         Answer::Refused { refusal, items } => Listing::Refused { refusal, items },
@@ -57,18 +58,19 @@ fn list_audited(
 pub fn ancestry(
     board: &[u32],
     verdicts: &[u32],
+    roll: &[u32],
     number: usize,
     index: &mut [u32],
     ballots: &mut [u32],
     list: &mut [u32],
 ) -> Listing
-    ensures answer { λ r. ⌜ answerOf r ≡ ancestryAnswer (listingOutcome board verdicts index ballots list) number ⌝ }
+    ensures answer { λ r. ⌜ answerOf r ≡ ancestryAnswer (listingOutcome board verdicts roll index ballots list) number ⌝ }
     ensures index { λ _. ⌜ now (index .exit)
-        ≡ indexAfter (listingOutcome board verdicts index ballots list) (now (index .entry)) ⌝ }
+        ≡ indexAfter (listingOutcome board verdicts roll index ballots list) (now (index .entry)) ⌝ }
     ensures ballots { λ _. ⌜ now (ballots .exit)
-        ≡ ballotsAfter (listingOutcome board verdicts index ballots list) (now (ballots .entry)) ⌝ }
+        ≡ ballotsAfter (listingOutcome board verdicts roll index ballots list) (now (ballots .entry)) ⌝ }
     ensures list { λ _. ⌜ now (list .exit)
-        ≡ listAfter (listingOutcome board verdicts index ballots list) number (now (list .entry)) ⌝ }
+        ≡ listAfter (listingOutcome board verdicts roll index ballots list) number (now (list .entry)) ⌝ }
 {
     // 1 oversize: more words than the limit
     if Limit::WORDS < board.len() {
@@ -84,5 +86,5 @@ pub fn ancestry(
             items: 0,
         };
     }
-    list_audited(board, verdicts, number, index, ballots, list)
+    list_audited(board, verdicts, roll, number, index, ballots, list)
 }

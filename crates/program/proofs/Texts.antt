@@ -11,7 +11,7 @@ use Rattle.model.proofs.Tests.{by-test}
 use Rattle.model.specs.Format.{Format}
 use Rattle.model.specs.Audit.{Outcome, unread, refused, accepted, audit, ballotRow, ballotNeed}
 use Rattle.model.specs.Report.{Report, reportOf, ballotsAfter}
-use Rattle.model.specs.Program.{fromBytes, bytesPerWord, programLimit, verdictLimit, textOf, sized, programOutcome, printed}
+use Rattle.model.specs.Program.{fromBytes, bytesPerWord, programLimit, verdictLimit, rollWords, textOf, sized, programOutcome, printed}
 use Rattle.model.proofs.Report.{audit-numbered}
 use Rattle.model.proofs.Bound.{few-ballots}
 use Rattle.sha256_block.specs.Fips.{sha256Words}
@@ -24,30 +24,30 @@ use Rattle.text.proofs.Answer.{reportText-textOf, textFrom-sized}
 use Rattle.text.proofs.Files.{kept-enough}
 use Rattle.refusal.specs.Number.{numberOf, foundOf}
 use Rattle.refusal.specs.declared.Refusal.{Refusal}
-use Rattle.refusal.specs.declared.Refusal.the-variants.{TooLarge, ShortTable, EmptyBoard, Truncated, UnknownType, WrongCount, WrongAddress, WrongPrevious, WrongParent, EarlierTime, OutOfPhase, Duplicate, BadContent, NoVerdict, WrongKey, BadSignature, BadClosing, NoSuchItem}
+use Rattle.refusal.proofs.Laws.{number-some}
 use Rattle.refusal.specs.declared.Finding.{Finding}
 use Rattle.refusal.specs.declared.Finding.the-variants.{Passes, Fails}
 use Rattle.program.specs.Read.{Read}
 
 -- the text of the audit, from its report and the ballot table behind it
-pub audit-shown : (ws vs t t′ : List ℕ) (i b : ℕ) (r : Report) {l m : List ℕ} {k : ℕ}
-    → r ≡ reportOf base (audit base ws vs i b) → t′ ≡ ballotsAfter (audit base ws vs i b) t
-    → Shown l (reportText r t′) m k → Shown l (textOf (audit base ws vs i b)) m k
-audit-shown ws vs t t′ i b r e e′ s = rw (e, e′, reportText-textOf base (audit base ws vs i b) t (audit-numbered base ws vs i b)) at s
+pub audit-shown : (ws vs rs t t′ : List ℕ) (i b : ℕ) (r : Report) {l m : List ℕ} {k : ℕ}
+    → r ≡ reportOf base (audit base ws vs rs i b) → t′ ≡ ballotsAfter (audit base ws vs rs i b) t
+    → Shown l (reportText r t′) m k → Shown l (textOf (audit base ws vs rs i b)) m k
+audit-shown ws vs rs t t′ i b r e e′ s = rw (e, e′, reportText-textOf base (audit base ws vs rs i b) t (audit-numbered base ws vs rs i b)) at s
 
 -- the words of some bytes, in front of others
 pub front : (bs w : List ℕ) (n : ℕ) → n ≡ length bs / bytesPerWord → take n (fromBytes bs ++ w) ≡ fromBytes bs
 front bs w n e = take-at (fromBytes bs) w n (length-from-bytes bs ∙ sym e)
 
 -- the ballot table has room for the rows that are reported
-rows-fit-in : (f : Format) (ws vs : List ℕ) (i b : ℕ) (o : Outcome) → ballotNeed ≤ b → audit f ws vs i b ≡ o → ballotRow * reportOf f o .ballots ≤ b
+rows-fit-in : (f : Format) (ws vs rs : List ℕ) (i b : ℕ) (o : Outcome) → ballotNeed ≤ b → audit f ws vs rs i b ≡ o → ballotRow * reportOf f o .ballots ≤ b
 unfolding reportOf
-rows-fit-in f ws vs i b (unread n) h e = omega arith
-rows-fit-in f ws vs i b (refused n k) h e = omega arith
-rows-fit-in f ws vs i b (accepted g) h e = let s = accepted↔sound f ws vs i b g .0 e .0 in omega (arith, few-ballots (s .passed) (s .few))
+rows-fit-in f ws vs rs i b (unread n) h e = omega arith
+rows-fit-in f ws vs rs i b (refused n k) h e = omega arith
+rows-fit-in f ws vs rs i b (accepted g) h e = let s = accepted↔sound f ws vs rs i b g .0 e .0 in omega (arith, few-ballots (s .passed) (s .few))
 
-pub rows-fit : (f : Format) (ws vs : List ℕ) (i b : ℕ) (r : Report) → r ≡ reportOf f (audit f ws vs i b) → ballotNeed ≤ b → ballotRow * r .ballots ≤ b
-rows-fit f ws vs i b r e h = rw e (rows-fit-in f ws vs i b (audit f ws vs i b) h refl)
+pub rows-fit : (f : Format) (ws vs rs : List ℕ) (i b : ℕ) (r : Report) → r ≡ reportOf f (audit f ws vs rs i b) → ballotNeed ≤ b → ballotRow * r .ballots ≤ b
+rows-fit f ws vs rs i b r e h = rw e (rows-fit-in f ws vs rs i b (audit f ws vs rs i b) h refl)
 
 -- a text that is shown is within the bytes
 pub shown-within : {l s m : List ℕ} {k : ℕ} → Shown l s m k → length m ≡ length l → k ≤ length m
@@ -55,33 +55,12 @@ shown-within s e = omega (arith, s .end, simp (length-append, length-drop) at (a
 
 -- ---- the sizes
 
--- every refusal has a number
-number-some : (x : Refusal) → numberOf x ≡ 0 → ⊥
-number-some TooLarge e = omega arith
-number-some ShortTable e = omega arith
-number-some EmptyBoard e = omega arith
-number-some Truncated e = omega arith
-number-some UnknownType e = omega arith
-number-some WrongCount e = omega arith
-number-some WrongAddress e = omega arith
-number-some WrongPrevious e = omega arith
-number-some WrongParent e = omega arith
-number-some EarlierTime e = omega arith
-number-some OutOfPhase e = omega arith
-number-some Duplicate e = omega arith
-number-some BadContent e = omega arith
-number-some NoVerdict e = omega arith
-number-some WrongKey e = omega arith
-number-some BadSignature e = omega arith
-number-some BadClosing e = omega arith
-number-some NoSuchItem e = omega arith
-
 -- the text of files whose sizes are refused, and of others
 module _ (g : Finding) (n : ℕ) (o : Outcome) {l m : List ℕ} {k : ℕ} (found : foundOf g ≡ n) where
   pub refused-shown : (x : Refusal) (i : ℕ) (t : List ℕ) → g ≡ Fails x → i ≡ numberOf x → Shown l (textFrom i 0 0 0 0 t) m k → Shown l (textOf (sized n o)) m k
   refused-shown x i t e f s =
       let same : n ≡ i = sym found ∙ ap foundOf e ∙ sym f in
-      rw (same, ← textFrom-sized i o t (λ z. number-some x (sym f ∙ z))) s
+      rw (same, ← textFrom-sized i o t (λ z. omega (arith, number-some x))) s
 
   pub sized-shown : g ≡ Passes → Shown l (textOf o) m k → Shown l (textOf (sized n o)) m k
   unfolding sized
@@ -100,8 +79,21 @@ kept : (buffer file : List ℕ) (i p : ℕ) → p ≡ min i (length buffer) → 
 kept buffer file i p e r = rw (e, take-min) (sym (r .bytes))
 
 -- what is printed for files, from the bytes that are kept of them
-pub printed-shown : (board verdicts b v : List ℕ) (i j p q : ℕ) {l m : List ℕ} {k : ℕ} → length board ≡ bytesPerWord * programLimit → length verdicts ≡ bytesPerWord * verdictLimit
-    → p ≡ min i (length board) → q ≡ min j (length verdicts) → Read board i b → Read verdicts j v
-    → Shown l (textOf (programOutcome base i j (fromBytes (take p board)) (fromBytes (take q verdicts)))) m k → Shown l (printed base b v) m k
-printed-shown board verdicts b v i j p q eb ev ep eq x y s =
-    rw (kept board b i p ep x, kept verdicts v j q eq y, eb, ev, ← x .whole, ← y .whole, kept-enough base b v (base-least sha256Words)) at s
+pub printed-shown : (board verdicts roll b v w : List ℕ) (i j n p q r : ℕ) {l m : List ℕ} {k : ℕ}
+    → length board ≡ bytesPerWord * programLimit → length verdicts ≡ bytesPerWord * verdictLimit → length roll ≡ bytesPerWord * rollWords
+    → p ≡ min i (length board) → q ≡ min j (length verdicts) → r ≡ min n (length roll) → Read board i b → Read verdicts j v → Read roll n w
+    → Shown l (textOf (programOutcome base i j n (fromBytes (take p board)) (fromBytes (take q verdicts)) (fromBytes (take r roll)))) m k
+    → Shown l (printed base b v w) m k
+printed-shown board verdicts roll b v w i j n p q r eb ev er ep eq en x y z s =
+    rw (
+      kept board b i p ep x,
+      kept verdicts v j q eq y,
+      kept roll w n r en z,
+      eb,
+      ev,
+      er,
+      ← x .whole,
+      ← y .whole,
+      ← z .whole,
+      kept-enough base b v w (base-least sha256Words),
+    ) at s

@@ -6,10 +6,11 @@ use Rattle.model.specs.Program.{fromBytes, programOutcome, textOf}
 use Rattle.format.specs.Base.{base}
 use Rattle.text.specs.declared.size.Sizes.{Sizes}
 
--- for the words of a board and its verdicts: the audit's outcome, with tables as long as they need to be
-abbrev pub auditText : List ℕ → List ℕ → List ℕ
-auditText board verdicts = textOf (audit base board verdicts indexNeed ballotNeed)
+-- for the words of a board, its verdicts and its roll: the audit's outcome, with tables as long as they need to be
+abbrev pub auditText : (board verdicts roll : List ℕ) → List ℕ
+auditText board verdicts roll = textOf (audit base board verdicts roll indexNeed ballotNeed)
 
--- for two files: their sizes, and the bytes that are kept of them
-abbrev pub filesText : Sizes → List ℕ → List ℕ → List ℕ
-filesText sizes board verdicts = textOf (programOutcome base (sizes .board) (sizes .verdicts) (fromBytes board) (fromBytes verdicts))
+-- for three files: their sizes, and the bytes that are kept of them
+abbrev pub filesText : Sizes → (board verdicts roll : List ℕ) → List ℕ
+filesText sizes board verdicts roll =
+    textOf (programOutcome base (sizes .board) (sizes .verdicts) (sizes .roll) (fromBytes board) (fromBytes verdicts) (fromBytes roll))

@@ -1,4 +1,4 @@
-// The auditing program but for reading and writing: from the bytes of both files to the bytes that it prints.
+// The auditing program but for reading and writing: from the bytes of the three files to the bytes that it prints.
 ghost use mathlib.Core.Path.{_≡_};
 ghost use mathlib.Core.List.{List};
 ghost use Prim.Native.Nat.{ℕ, _+_, _*_, _≤_, min};
@@ -22,6 +22,8 @@ use text::size::Sizes;
 pub const BOARD: usize = Sizes::WORD * Sizes::BOARD;
 
 pub const VERDICTS: usize = Sizes::WORD * Sizes::VERDICTS;
+
+pub const ROLL: usize = Sizes::WORD * Sizes::ROLL;
 
 // Room for any text: a line for the board, and a line for each row that the ballot table has room for.
 pub const TEXT: usize = LINE * (1 + Limit::COUNTED);
@@ -53,49 +55,59 @@ fn report_text(out: &mut [u8], report: Report, table: &[u32]) -> usize
 }
 
 // The text of the audit of a board, with tables of its own.
-fn audit_text(out: &mut [u8], board: &[u32], verdicts: &[u32]) -> usize
+fn audit_text(out: &mut [u8], board: &[u32], verdicts: &[u32], roll: &[u32]) -> usize
     requires { do ⌜ (← ⟦TEXT⟧) ≤ length (now out) ⌝ }
-    ensures { λ r. ⌜ Shown (now (out .entry)) (auditText (now (board .entry)) (now (verdicts .entry))) (now (out .exit)) r ⌝ }
+    ensures { λ r. ⌜ Shown (now (out .entry))
+        (auditText (now (board .entry)) (now (verdicts .entry)) (now (roll .entry)))
+        (now (out .exit)) r ⌝ }
 {
     let mut index = [0u32; Limit::INDEX];
     let mut ballots = [0u32; Limit::BALLOTS];
-    let report = audit::audit(board, verdicts, &mut index, &mut ballots);
+    let report = audit::audit(board, verdicts, roll, &mut index, &mut ballots);
     report_text(out, report, &ballots)
 }
 
-// The text for the words of two files of whole words, from their bytes.
-fn words_text(out: &mut [u8], board: &[u8], verdicts: &[u8]) -> usize
+// The text for the words of three files of whole words, from their bytes.
+fn words_text(out: &mut [u8], board: &[u8], verdicts: &[u8], roll: &[u8]) -> usize
     requires room { do ⌜ (← ⟦TEXT⟧) ≤ length (now out) ⌝ }
     requires board { do ⌜ length (now board) ≤ (← ⟦BOARD⟧) ⌝ }
     requires verdicts { do ⌜ length (now verdicts) ≤ (← ⟦VERDICTS⟧) ⌝ }
+    requires roll { do ⌜ length (now roll) ≤ (← ⟦ROLL⟧) ⌝ }
     ensures { λ r. ⌜ Shown (now (out .entry))
-        (auditText (fromBytes (now (board .entry))) (fromBytes (now (verdicts .entry))))
+        (auditText (fromBytes (now (board .entry))) (fromBytes (now (verdicts .entry))) (fromBytes (now (roll .entry))))
         (now (out .exit)) r ⌝ }
 {
     let mut board_words = [0u32; Sizes::BOARD];
     words::words_of(board, &mut board_words);
     let mut verdict_words = [0u32; Sizes::VERDICTS];
     words::words_of(verdicts, &mut verdict_words);
+    let mut roll_words = [0u32; Sizes::ROLL];
+    words::words_of(roll, &mut roll_words);
     let board_count = board.len() / Sizes::WORD;
     let verdict_count = verdicts.len() / Sizes::WORD;
+    let roll_count = roll.len() / Sizes::WORD;
     audit_text(
         out,
         &board_words[..board_count],
         &verdict_words[..verdict_count],
+        &roll_words[..roll_count],
     )
 }
 
-// The text for two files: their sizes, and the bytes that are kept of them.
-fn files_text(out: &mut [u8], sizes: Sizes, board: &[u8], verdicts: &[u8]) -> usize
+// The text for three files: their sizes, and the bytes that are kept of them.
+fn files_text(out: &mut [u8], sizes: Sizes, board: &[u8], verdicts: &[u8], roll: &[u8]) -> usize
     requires room { do ⌜ (← ⟦TEXT⟧) ≤ length (now out) ⌝ }
     requires board { do ⌜ length (now board) ≤ (← ⟦BOARD⟧) ⌝ }
     requires verdicts { do ⌜ length (now verdicts) ≤ (← ⟦VERDICTS⟧) ⌝ }
-    ensures { λ r. ⌜ Shown (now (out .entry)) (filesText sizes (now (board .entry)) (now (verdicts .entry))) (now (out .exit)) r ⌝ }
+    requires roll { do ⌜ length (now roll) ≤ (← ⟦ROLL⟧) ⌝ }
+    ensures { λ r. ⌜ Shown (now (out .entry))
+        (filesText sizes (now (board .entry)) (now (verdicts .entry)) (now (roll .entry)))
+        (now (out .exit)) r ⌝ }
 {
     let finding = sizes.finding();
     match finding {
         Finding::Fails(refusal) => text::text_of(out, refusal::number_of(refusal), 0, 0, 0, 0, &[]),
-        Finding::Passes => words_text(out, board, verdicts),
+        Finding::Passes => words_text(out, board, verdicts, roll),
     }
 }
 
@@ -106,18 +118,27 @@ fn held(size: usize, room: usize) -> usize
     if size < room { size } else { room }
 }
 
-// The text for two files of these sizes, whose first bytes stand in the buffers.
-pub fn answer(out: &mut [u8], sizes: Sizes, board: &[u8], verdicts: &[u8]) -> usize
+// The text for three files of these sizes, whose first bytes stand in the buffers.
+pub fn answer(out: &mut [u8], sizes: Sizes, board: &[u8], verdicts: &[u8], roll: &[u8]) -> usize
     requires room { do ⌜ (← ⟦TEXT⟧) ≤ length (now out) ⌝ }
     requires board { do ⌜ length (now board) ≡ (← ⟦BOARD⟧) ⌝ }
     requires verdicts { do ⌜ length (now verdicts) ≡ (← ⟦VERDICTS⟧) ⌝ }
+    requires roll { do ⌜ length (now roll) ≡ (← ⟦ROLL⟧) ⌝ }
     ensures within { λ r. ⌜ r ≤ length (now (out .exit)) ⌝ }
-    ensures text { λ r. ⌜ ((b v : List ℕ)
+    ensures text { λ r. ⌜ ((b v w : List ℕ)
         → Read (now (board .entry)) (sizes .board) b
         → Read (now (verdicts .entry)) (sizes .verdicts) v
-        → Shown (now (out .entry)) (printed base b v) (now (out .exit)) r) ⌝ }
+        → Read (now (roll .entry)) (sizes .roll) w
+        → Shown (now (out .entry)) (printed base b v w) (now (out .exit)) r) ⌝ }
 {
     let first = held(sizes.board, board.len());
     let second = held(sizes.verdicts, verdicts.len());
-    files_text(out, sizes, &board[..first], &verdicts[..second])
+    let third = held(sizes.roll, roll.len());
+    files_text(
+        out,
+        sizes,
+        &board[..first],
+        &verdicts[..second],
+        &roll[..third],
+    )
 }

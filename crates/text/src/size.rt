@@ -5,10 +5,11 @@ ghost use Rattle.refusal.specs.Number.{foundOf};
 use refusal::Finding;
 use refusal::Refusal;
 
-// The bytes of both files.
+// The bytes of the three files.
 pub struct Sizes {
     pub board: usize,
     pub verdicts: usize,
+    pub roll: usize,
 }
 
 impl Sizes {
@@ -21,14 +22,20 @@ impl Sizes {
     // Verdict words that it keeps: those of 381 items, the most that such a board has, and one that shows that words are left over.
     pub const VERDICTS: usize = 3_430;
 
+    // Roll words that it keeps: the most that a roll may have, and one that shows that there are more.
+    pub const ROLL: usize = 4_097;
+
     // The refusal of the sizes: 4 where a file does not hold whole words, then 1 where the board has too many.
     pub fn finding(self) -> Finding
-        ensures { λ r. ⌜ foundOf r ≡ sizeFault (self .board) (self .verdicts) ⌝ }
+        ensures { λ r. ⌜ foundOf r ≡ sizeFault (self .board) (self .verdicts) (self .roll) ⌝ }
     {
         if self.board % Sizes::WORD != 0 {
             return Finding::Fails(Refusal::Truncated);
         }
         if self.verdicts % Sizes::WORD != 0 {
+            return Finding::Fails(Refusal::Truncated);
+        }
+        if self.roll % Sizes::WORD != 0 {
             return Finding::Fails(Refusal::Truncated);
         }
         if self.board / Sizes::WORD > Sizes::BOARD {

@@ -6,7 +6,7 @@ use Rattle.abi.proofs.tirfolma_ancestry.Tie as tie
 
 returns : tie.Need-returns
 returns c =
-    let s = c .before .before .before .before .before .before .before in
+    let s = c .before .before .before .before .before .before .before .before in
     listed-short _ (s .args .number) (s .args .index .now) (s .args .ballots .now) (s .args .list .now) (s .args .answer .now) (c .if1 .taken)
 
 ancestry-requires : tie.Need-ancestry-requires
@@ -29,7 +29,7 @@ same-length-4 c = search needs
 
 returns-2 : tie.Need-returns-2
 returns-2 c =
-    let s = c .before .before .before .before .before .before .before .before .before .before .before .before .before .before .before .before .before .before .before .before .before in
+    let s = c .before .before .before .before .before .before .before .before .before .before .before .before .before .before .before .before .before .before .before .before .before .before in
     let a = c .before .before .before .before .before .before .before .before .before .before .ancestry in
     listed-told _ (s .args .number) (s .args .index .now) (s .args .ballots .now) (s .args .list .now) (s .args .answer .now) (c .before .before .before .before .before .before .before .before .before .before .before .before .before .before .if1 .left) (a .result) (a .ensures .0) (a .ensures .1 .0) (a .ensures .1 .1 .0) (a .ensures .1 .1 .1) (c .before .before .put-listing .ensures)
 

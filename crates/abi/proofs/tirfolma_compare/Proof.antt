@@ -6,7 +6,7 @@ use Rattle.abi.proofs.tirfolma_compare.Tie as tie
 
 returns : tie.Need-returns
 returns c =
-    let s = c .before .before .before .before .before .before .before .before .before .before in
+    let s = c .before .before .before .before .before .before .before .before .before .before .before .before in
     compared-short _ _ (s .args .number) (s .args .kept-index .now) (s .args .kept-ballots .now) (s .args .later-index .now) (s .args .later-ballots .now) (s .args .answer .now) (c .if1 .taken)
 
 compare-requires : tie.Need-compare-requires
@@ -32,7 +32,7 @@ same-length-5 c = search needs
 
 returns-2 : tie.Need-returns-2
 returns-2 c =
-    let s = c .before .before .before .before .before .before .before .before .before .before .before .before .before .before .before .before .before .before .before .before .before .before .before .before .before .before .before in
+    let s = c .before .before .before .before .before .before .before .before .before .before .before .before .before .before .before .before .before .before .before .before .before .before .before .before .before .before .before .before .before in
     let a = c .before .before .before .before .before .before .before .before .before .before .before .before .compare in
     compared-told _ _ (s .args .number) (s .args .kept-index .now) (s .args .kept-ballots .now) (s .args .later-index .now) (s .args .later-ballots .now) (s .args .answer .now) (c .before .before .before .before .before .before .before .before .before .before .before .before .before .before .before .before .before .if1 .left) (a .result) (a .ensures .0) (a .ensures .1 .0) (a .ensures .1 .1 .0) (a .ensures .1 .1 .1 .0) (a .ensures .1 .1 .1 .1) (c .before .before .put-comparison .ensures)
 

@@ -23,6 +23,15 @@ slice-aggregate-read-4 c = search needs
 read-requires-2 : tie.Need-read-requires-2
 read-requires-2 c κs = search needs
 
+slice-aggregate-read-5 : tie.Need-slice-aggregate-read-5
+slice-aggregate-read-5 c = search needs
+
+slice-aggregate-read-6 : tie.Need-slice-aggregate-read-6
+slice-aggregate-read-6 c = search needs
+
+read-requires-3 : tie.Need-read-requires-3
+read-requires-3 c κs = search needs
+
 slice-aggregate-answer : tie.Need-slice-aggregate-answer
 slice-aggregate-answer c = search needs
 
@@ -31,6 +40,9 @@ slice-aggregate-answer-2 c = search needs
 
 slice-aggregate-answer-3 : tie.Need-slice-aggregate-answer-3
 slice-aggregate-answer-3 c = search needs
+
+slice-aggregate-answer-4 : tie.Need-slice-aggregate-answer-4
+slice-aggregate-answer-4 c = search needs
 
 answer-requires : tie.Need-answer-requires
 answer-requires c κs = search needs
@@ -57,9 +69,13 @@ main-spec =
     slice-aggregate-read-3
     slice-aggregate-read-4
     read-requires-2
+    slice-aggregate-read-5
+    slice-aggregate-read-6
+    read-requires-3
     slice-aggregate-answer
     slice-aggregate-answer-2
     slice-aggregate-answer-3
+    slice-aggregate-answer-4
     answer-requires
     array-share-prefix-out
     slice-aggregate-write-all

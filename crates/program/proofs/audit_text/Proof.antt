@@ -20,19 +20,19 @@ slice-aggregate-report-text c = search needs
 
 report-text-requires : tie.Need-report-text-requires
 report-text-requires c κs =
-    let s = c .before .before .before .before .before .before .before .before .before .before in
+    let s = c .before .before .before .before .before .before .before .before .before .before .before in
     let a = c .before .before .before .before .audit in
-    let fits = rows-fit base (s .args .board .now) (s .args .verdicts .now) _ _ _ (a .ensures .0) (omega arith) in
-    (omega arith, omega (arith, a .kept .1 .1 .1 .0))
+    let fits = rows-fit base (s .args .board .now) (s .args .verdicts .now) (s .args .roll .now) _ _ _ (a .ensures .0) (omega arith) in
+    (omega arith, omega (arith, a .kept .1 .1 .1 .1 .0))
 
 same-length : tie.Need-same-length
 same-length c = search needs
 
 returns : tie.Need-returns
 returns c =
-    let s = c .before .before .before .before .before .before .before .before .before .before .before .before .before in
+    let s = c .before .before .before .before .before .before .before .before .before .before .before .before .before .before in
     let a = c .before .before .before .before .before .before .before .audit in
-    audit-shown (s .args .board .now) (s .args .verdicts .now) _ _ _ _ _ (a .ensures .0) (a .ensures .1 .1) (c .before .before .report-text .ensures)
+    audit-shown (s .args .board .now) (s .args .verdicts .now) (s .args .roll .now) _ _ _ _ _ (a .ensures .0) (a .ensures .1 .1) (c .before .before .report-text .ensures)
 
 pub audit-text-spec : {M : Type 1} → statement M
 audit-text-spec =

@@ -18,9 +18,9 @@ compare-later-requires : tie.Need-compare-later-requires
 compare-later-requires c κs =
     let matched = c .before .before .before .before in
     let audited = matched .before .before .before .before .before .before in
-    let s = audited .before .before .before .before .before .before .before .before .before .before .before .args in
+    let s = audited .before .before .before .before .before .before .before .before .before .before .before .before .before .args in
     let r = audited .audit in
-    accepted-board (s .kept .now) (s .kept-verdicts .now) (s .kept-index .now) (s .kept-ballots .now) (r .result) (r .ensures) (matched .answer2 .given .1)
+    accepted-board (s .kept .now) (s .kept-verdicts .now) (s .kept-roll .now) (s .kept-index .now) (s .kept-ballots .now) (r .result) (r .ensures) (matched .answer2 .given .1)
 
 same-length : tie.Need-same-length
 same-length c = search needs
@@ -32,9 +32,9 @@ returns : tie.Need-returns
 returns c =
     let matched = c .before in
     let audited = matched .before .before .before .before .before .before in
-    let s = audited .before .before .before .before .before .before .before .before .before .before .before .args in
+    let s = audited .before .before .before .before .before .before .before .before .before .before .before .before .before .args in
     let r = audited .audit in
-    let refused = refused-outcome (s .kept .now) (s .kept-verdicts .now) (s .kept-index .now) (s .kept-ballots .now) (r .result) (r .ensures) (matched .answer .given .1) in
+    let refused = refused-outcome (s .kept .now) (s .kept-verdicts .now) (s .kept-roll .now) (s .kept-index .now) (s .kept-ballots .now) (r .result) (r .ensures) (matched .answer .given .1) in
     (kept-refused _ _ refused, (r .ensures .1 .0, (r .ensures .1 .1, (later-unchanged _ _ refused, later-unchanged _ _ refused))))
 
 same-length-3 : tie.Need-same-length-3
@@ -53,9 +53,9 @@ returns-2 : tie.Need-returns-2
 returns-2 c =
     let matched = c .before .before .before .before .before .before .before .before .before in
     let audited = matched .before .before .before .before .before .before in
-    let s = audited .before .before .before .before .before .before .before .before .before .before .before .args in
+    let s = audited .before .before .before .before .before .before .before .before .before .before .before .before .before .args in
     let r = audited .audit in
-    let accepts = accepted-outcome (s .kept .now) (s .kept-verdicts .now) (s .kept-index .now) (s .kept-ballots .now) (r .result) (r .ensures) (matched .answer2 .given .1) in
+    let accepts = accepted-outcome (s .kept .now) (s .kept-verdicts .now) (s .kept-roll .now) (s .kept-index .now) (s .kept-ballots .now) (r .result) (r .ensures) (matched .answer2 .given .1) in
     let later = c .before .before .before .before .compare-later .ensures in (
       kept-accepted accepts _ _ (later .0),
       (r .ensures .1 .0, (r .ensures .1 .1, (later-audited accepts _ _ (later .1 .0), later-audited accepts _ _ (later .1 .1)))),

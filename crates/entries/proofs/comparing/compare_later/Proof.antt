@@ -18,10 +18,10 @@ compare-accepted-requires : tie.Need-compare-accepted-requires
 compare-accepted-requires c κs =
     let matched = c .before .before in
     let audited = matched .before .before .before .before .before .before in
-    let start = audited .before .before .before .before .before .before .before .before .before in
+    let start = audited .before .before .before .before .before .before .before .before .before .before in
     let s = start .args in
     let r = audited .audit in
-    (start .pre, accepted-board (s .later .now) (s .later-verdicts .now) (s .later-index .now) (s .later-ballots .now) (r .result) (r .ensures) (matched .answer2 .given .1))
+    (start .pre, accepted-board (s .later .now) (s .later-verdicts .now) (s .later-roll .now) (s .later-index .now) (s .later-ballots .now) (r .result) (r .ensures) (matched .answer2 .given .1))
 
 same-length : tie.Need-same-length
 same-length c = search needs
@@ -33,9 +33,9 @@ returns : tie.Need-returns
 returns c =
     let matched = c .before in
     let audited = matched .before .before .before .before .before .before in
-    let s = audited .before .before .before .before .before .before .before .before .before .args in
+    let s = audited .before .before .before .before .before .before .before .before .before .before .args in
     let r = audited .audit in
-    let refused = refused-outcome (s .later .now) (s .later-verdicts .now) (s .later-index .now) (s .later-ballots .now) (r .result) (r .ensures) (matched .answer .given .1) in
+    let refused = refused-outcome (s .later .now) (s .later-verdicts .now) (s .later-roll .now) (s .later-index .now) (s .later-ballots .now) (r .result) (r .ensures) (matched .answer .given .1) in
     (later-refused _ _ refused, r .ensures .1)
 
 same-length-3 : tie.Need-same-length-3
@@ -48,9 +48,9 @@ returns-2 : tie.Need-returns-2
 returns-2 c =
     let matched = c .before .before .before in
     let audited = matched .before .before .before .before .before .before in
-    let s = audited .before .before .before .before .before .before .before .before .before .args in
+    let s = audited .before .before .before .before .before .before .before .before .before .before .args in
     let r = audited .audit in
-    let accepts = accepted-outcome (s .later .now) (s .later-verdicts .now) (s .later-index .now) (s .later-ballots .now) (r .result) (r .ensures) (matched .answer2 .given .1) in
+    let accepts = accepted-outcome (s .later .now) (s .later-verdicts .now) (s .later-roll .now) (s .later-index .now) (s .later-ballots .now) (r .result) (r .ensures) (matched .answer2 .given .1) in
     (later-accepted _ _ accepts (c .compare-accepted .ensures), r .ensures .1)
 
 pub compare-later-spec : {M : Type 1} → statement M

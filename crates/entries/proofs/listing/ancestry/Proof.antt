@@ -6,9 +6,9 @@ use Rattle.entries.proofs.listing.ancestry.Tie as tie
 
 returns : tie.Need-returns
 returns c =
-    let s = c .before .before .before .before .before .before .args in
+    let s = c .before .before .before .before .before .before .before .args in
     all-unchanged _ (s .number) (s .list .now) (s .index .now) (s .ballots .now)
-    (large (s .board .now) (s .verdicts .now) (s .index .now) (s .ballots .now) (s .list .now) (c .if1 .taken))
+    (large (s .board .now) (s .verdicts .now) (s .roll .now) (s .index .now) (s .ballots .now) (s .list .now) (c .if1 .taken))
 
 is-short-requires : tie.Need-is-short-requires
 is-short-requires c κs = search needs
@@ -25,16 +25,16 @@ same-length-3 c = search needs
 returns-2 : tie.Need-returns-2
 returns-2 c =
     let small = c .before .before .before .before .before in
-    let s = small .before .before .before .before .before .before .args in
+    let s = small .before .before .before .before .before .before .before .args in
     all-unchanged _ (s .number) (s .list .now) (s .index .now) (s .ballots .now)
-    (short (s .board .now) (s .verdicts .now) (s .index .now) (s .ballots .now) (s .list .now) (small .if1 .left) (c .before .is-short .ensures) (c .if2 .taken))
+    (short (s .board .now) (s .verdicts .now) (s .roll .now) (s .index .now) (s .ballots .now) (s .list .now) (small .if1 .left) (c .before .is-short .ensures) (c .if2 .taken))
 
 list-audited-requires : tie.Need-list-audited-requires
 list-audited-requires c κs =
     let tested = c .before .before .before .before in
     let small = tested .before .before .before .before in
-    let s = small .before .before .before .before .before .before .args in
-    sized (s .board .now) (s .verdicts .now) (s .index .now) (s .ballots .now) (s .list .now) (small .if1 .left) (tested .is-short .ensures) (c .before .before .before .if2 .left)
+    let s = small .before .before .before .before .before .before .before .args in
+    sized (s .board .now) (s .verdicts .now) (s .roll .now) (s .index .now) (s .ballots .now) (s .list .now) (small .if1 .left) (tested .is-short .ensures) (c .before .before .before .if2 .left)
 
 same-length-4 : tie.Need-same-length-4
 same-length-4 c = search needs
@@ -51,9 +51,9 @@ returns-3 c =
     let fits = listed .before .before .before .before in
     let tested = fits .before in
     let small = tested .before .before .before .before in
-    let s = small .before .before .before .before .before .before .args in
-    let long = sized (s .board .now) (s .verdicts .now) (s .index .now) (s .ballots .now) (s .list .now) (small .if1 .left) (tested .is-short .ensures) (fits .if2 .left) .long in
-    left-by (audited (s .board .now) (s .verdicts .now) (s .index .now) (s .ballots .now) (s .list .now) long) (s .number) (s .index .now) (s .ballots .now) (s .list .now) (listed .list-audited .ensures)
+    let s = small .before .before .before .before .before .before .before .args in
+    let long = sized (s .board .now) (s .verdicts .now) (s .roll .now) (s .index .now) (s .ballots .now) (s .list .now) (small .if1 .left) (tested .is-short .ensures) (fits .if2 .left) .long in
+    left-by (audited (s .board .now) (s .verdicts .now) (s .roll .now) (s .index .now) (s .ballots .now) (s .list .now) long) (s .number) (s .index .now) (s .ballots .now) (s .list .now) (listed .list-audited .ensures)
 
 pub ancestry-spec : {M : Type 1} → statement M
 ancestry-spec =

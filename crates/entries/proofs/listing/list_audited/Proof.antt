@@ -26,13 +26,13 @@ list-accepted-requires c κs =
     let matched = c .before .before .before in
     let audited = matched .before .before .before .before .before .before in
     let emptied = audited .before .before .before .before .before in
-    let start = emptied .before .before .before .before .before .before .before in
+    let start = emptied .before .before .before .before .before .before .before .before in
     let s = start .args in
     let r = audited .audit in
     let clear = emptied .clear in
     let long = start .pre .long in
     let size = clear .kept .0 in (
-      accepted-kept (s .board .now) (s .verdicts .now) (s .index .now) (s .ballots .now) (r .result) (r .ensures) (matched .answer2 .given .1),
+      accepted-kept (s .board .now) (s .verdicts .now) (s .roll .now) (s .index .now) (s .ballots .now) (r .result) (r .ensures) (matched .answer2 .given .1),
       (omega arith, clear .ensures ∙ ap (λ (n : ℕ). replicate n 0) (sym size)),
     )
 
@@ -50,11 +50,11 @@ returns c =
     let matched = c .before in
     let audited = matched .before .before .before .before .before .before in
     let emptied = audited .before .before .before .before .before in
-    let start = emptied .before .before .before .before .before .before .before in
+    let start = emptied .before .before .before .before .before .before .before .before in
     let s = start .args in
     let r = audited .audit in
-    let refused = refused-outcome (s .board .now) (s .verdicts .now) (s .index .now) (s .ballots .now) (r .result) (r .ensures) (matched .answer .given .1) in
-    let late = refused-late (s .board .now) (s .verdicts .now) (s .index .now) (s .ballots .now) (s .list .now) (start .pre) refused in
+    let refused = refused-outcome (s .board .now) (s .verdicts .now) (s .roll .now) (s .index .now) (s .ballots .now) (r .result) (r .ensures) (matched .answer .given .1) in
+    let late = refused-late (s .board .now) (s .verdicts .now) (s .roll .now) (s .index .now) (s .ballots .now) (s .list .now) (start .pre) refused in
     let left = list-refused _ (s .number) (s .list .now) late in
     (left .0, (r .ensures .1 .0, (r .ensures .1 .1, emptied .clear .ensures ∙ left .1)))
 
@@ -72,10 +72,10 @@ returns-2 c =
     let matched = c .before .before .before .before .before .before in
     let audited = matched .before .before .before .before .before .before in
     let emptied = audited .before .before .before .before .before in
-    let s = emptied .before .before .before .before .before .before .before .args in
+    let s = emptied .before .before .before .before .before .before .before .before .args in
     let r = audited .audit in
     let clear = emptied .clear in
-    let accepts = accepted-outcome (s .board .now) (s .verdicts .now) (s .index .now) (s .ballots .now) (r .result) (r .ensures) (matched .answer2 .given .1) in
+    let accepts = accepted-outcome (s .board .now) (s .verdicts .now) (s .roll .now) (s .index .now) (s .ballots .now) (r .result) (r .ensures) (matched .answer2 .given .1) in
     let listed = c .before .before .list-accepted .ensures in
     let left = list-accepted _ (s .number) (s .list .now) (clear .last .0) accepts (clear .kept .0) (listed .0) (listed .1) in
     (left .0, (r .ensures .1 .0, (r .ensures .1 .1, left .1)))

@@ -23,5 +23,9 @@ returns-4 : tie.Need-returns-4
 unfolding sizeFault if_then_else_
 returns-4 c = search tests
 
+returns-5 : tie.Need-returns-5
+unfolding sizeFault if_then_else_
+returns-5 c = search tests
+
 pub finding-spec : {M : Type 1} → statement M
-finding-spec = tie.close (tie.spec returns returns-2 returns-3 returns-4)
+finding-spec = tie.close (tie.spec returns returns-2 returns-3 returns-4 returns-5)
