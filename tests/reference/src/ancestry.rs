@@ -1,6 +1,6 @@
 //! The ancestry of an item: its number, its parent's, and so on up to genesis.
 
-use crate::audit::{audit_with, History, Rules, RULES};
+use crate::audit::{audit_with, Board, History, Rules, RULES};
 use crate::format::{LIST_NEED, MAX_WORDS};
 
 /// The answer: 0 and how many numbers were written, or a refusal and the items passed.
@@ -13,29 +13,29 @@ pub struct Ancestry {
 pub fn ancestry(
     board: &[u32],
     verdicts: &[u32],
+    roll: &[u32],
     item_number: usize,
     index: &mut [u32],
     ballots: &mut [u32],
     list: &mut [u32],
 ) -> Ancestry {
-    ancestry_with(RULES, board, verdicts, item_number, index, ballots, list)
+    ancestry_with(RULES, Board { words: board, verdicts, roll }, item_number, index, ballots, list)
 }
 
 pub fn ancestry_with(
     rules: Rules,
-    board: &[u32],
-    verdicts: &[u32],
+    board: Board,
     item_number: usize,
     index: &mut [u32],
     ballots: &mut [u32],
     list: &mut [u32],
 ) -> Ancestry {
     // The word limit comes before a short table, whichever table it is.
-    if list.len() < LIST_NEED && board.len() <= MAX_WORDS {
+    if list.len() < LIST_NEED && board.words.len() <= MAX_WORDS {
         return Ancestry { number: 2, count: 0 };
     }
-    let (report, history) = audit_with(rules, board, verdicts, index, ballots);
-    let before_reading = board.len() > MAX_WORDS || report.number == 2;
+    let (report, history) = audit_with(rules, board, index, ballots);
+    let before_reading = board.words.len() > MAX_WORDS || report.number == 2;
     if before_reading {
         return Ancestry { number: report.number, count: 0 };
     }

@@ -23,6 +23,15 @@ pub struct Refusal {
     pub items: usize,
 }
 
+/// What an audit is given to read.
+#[derive(Clone, Copy)]
+pub struct Board<'a> {
+    pub words: &'a [u32],
+    pub verdicts: &'a [u32],
+    /// Pairs of voter number and weight.
+    pub roll: &'a [u32],
+}
+
 /// An item that was passed.
 #[derive(Clone, Debug)]
 pub struct Item {
@@ -57,17 +66,21 @@ pub struct Counted {
 }
 
 /// The rules that can be put otherwise: a weak hash shows collisions, and a wrong reading of when a ballot
-/// may be opened or cast tries the checks.
+/// may be opened or cast, or of the roll, tries the checks.
 #[derive(Clone, Copy)]
 pub struct Rules {
     pub hash: Hash,
     pub may_open: fn(&Opening) -> bool,
     /// Whether its track lets the ballot with this item number be cast.
     pub may_cast: fn(&History, usize) -> bool,
+    pub is_good_roll: fn(&[u32]) -> bool,
+    /// Whether the roll has what an item of this type with this content needs there.
+    pub is_enrolled: fn(roll: &[u32], code: u32, content: &[u32]) -> bool,
 }
 
 /// As the paper has them.
-pub const RULES: Rules = Rules { hash: sha256, may_open: is_spoiled, may_cast: |_, _| true };
+pub const RULES: Rules =
+    Rules { hash: sha256, may_open: is_spoiled, may_cast: |_, _| true, is_good_roll, is_enrolled };
 
 /// A voter opening in hand.
 pub struct Opening<'a> {
@@ -175,19 +188,13 @@ pub fn hashed<'a>(board: &'a [u32], item: &Item) -> &'a [u32] {
 }
 
 /// The audit by the rules as they are.
-pub fn audit(board: &[u32], verdicts: &[u32], index: &mut [u32], ballots: &mut [u32]) -> Report {
-    audit_with(RULES, board, verdicts, index, ballots).0
+pub fn audit(board: &[u32], verdicts: &[u32], roll: &[u32], index: &mut [u32], ballots: &mut [u32]) -> Report {
+    audit_with(RULES, Board { words: board, verdicts, roll }, index, ballots).0
 }
 
 /// The audit by any rules; the history where the board is accepted.
-pub fn audit_with(
-    rules: Rules,
-    board: &[u32],
-    verdicts: &[u32],
-    index: &mut [u32],
-    ballots: &mut [u32],
-) -> (Report, Option<History>) {
-    if board.len() > MAX_WORDS {
+pub fn audit_with(rules: Rules, board: Board, index: &mut [u32], ballots: &mut [u32]) -> (Report, Option<History>) {
+    if board.words.len() > MAX_WORDS {
         return (refused(1, 0), None);
     }
     if index.len() < INDEX_NEED || ballots.len() < BALLOTS_NEED {
@@ -195,7 +202,10 @@ pub fn audit_with(
     }
     index.fill(0);
     ballots.fill(0);
-    match walk(rules, board, verdicts) {
+    if !(rules.is_good_roll)(board.roll) {
+        return (refused(20, 0), None);
+    }
+    match walk(rules, board) {
         Err(refusal) => (refused(refusal.number, refusal.items), None),
         Ok(history) => {
             write_index(&history, index);
@@ -256,8 +266,24 @@ fn write_ballots(history: &History, ballots: &mut [u32]) {
     }
 }
 
-/// Refusals 3 and up.
-fn walk(rules: Rules, board: &[u32], verdicts: &[u32]) -> Result<History, Refusal> {
+/// 20: the roll has whole pairs, no more than there may be, and their voter numbers rise strictly.
+pub fn is_good_roll(roll: &[u32]) -> bool {
+    roll.len() % ROLL_ROW == 0 && roll.len() <= ROLL_MOST && rises(roll)
+}
+
+/// Whether each voter number is more than the one before it.
+fn rises(roll: &[u32]) -> bool {
+    for at in (ROLL_ROW..roll.len()).step_by(ROLL_ROW) {
+        if roll[at - ROLL_ROW + roll_row::VOTER] >= roll[at + roll_row::VOTER] {
+            return false;
+        }
+    }
+    true
+}
+
+/// Refusals 3 and up, all but 20.
+fn walk(rules: Rules, given: Board) -> Result<History, Refusal> {
+    let (board, verdicts) = (given.words, given.verdicts);
     if board.is_empty() || kind(board[0]) == CLOSING {
         return Err(Refusal { number: 3, items: 0 });
     }
@@ -291,7 +317,7 @@ fn walk(rules: Rules, board: &[u32], verdicts: &[u32]) -> Result<History, Refusa
             return refuse(4);
         }
         let item = Candidate::at(board, place);
-        let checked = check(rules, board, &history, &item, verdicts);
+        let checked = check(rules, given, &history, &item);
         let (parent, session) = match checked {
             Ok(found) => found,
             Err(number) => return refuse(number),
@@ -301,14 +327,14 @@ fn walk(rules: Rules, board: &[u32], verdicts: &[u32]) -> Result<History, Refusa
     }
 }
 
-/// Checks 7 to 16 of one item. Gives the item numbers of its parent and session.
+/// Checks 7 to 16 of one item, and 21. Gives the item numbers of its parent and session.
 fn check(
     rules: Rules,
-    board: &[u32],
+    given: Board,
     history: &History,
     item: &Candidate,
-    verdicts: &[u32],
 ) -> Result<(usize, Option<usize>), u32> {
+    let (board, verdicts) = (given.words, given.verdicts);
     let number = history.items() + 1;
 
     // 7: the address.
@@ -346,6 +372,9 @@ fn check(
     }
     if !content_fits(rules.hash, history, board, item, session) {
         return Err(13);
+    }
+    if !(rules.is_enrolled)(given.roll, item.code, item.content) {
+        return Err(21);
     }
     // 14: nine verdict words.
     let at = (number - 1) * VERDICT_WORDS;
@@ -474,6 +503,21 @@ fn content_fits(hash: Hash, history: &History, board: &[u32], item: &Candidate, 
         }
         _ => true,
     }
+}
+
+/// 21: a session names a voter of the roll, with that voter's weight.
+pub fn is_enrolled(roll: &[u32], code: u32, content: &[u32]) -> bool {
+    code != SESSION || is_on_roll(roll, content[0], content[1])
+}
+
+/// Whether a pair of the roll has this voter and this weight.
+pub fn is_on_roll(roll: &[u32], voter: u32, weight: u32) -> bool {
+    for pair in roll.chunks_exact(ROLL_ROW) {
+        if pair[roll_row::VOTER] == voter && pair[roll_row::WEIGHT] == weight {
+            return true;
+        }
+    }
+    false
 }
 
 /// The hash over the contents of the counted ballots, in order.

@@ -1,20 +1,25 @@
 //! One call of an entry over the C interface: buffers of any length, full of junk and with guard words on
-//! both sides, go to an implementation; the reference is given the same words. The call can then be
-//! held to the reference word by word, to the boards alone, or to stored tables. Which lengths are tried
-//! with which boards is told in `checks`.
+//! both sides, go to an implementation, and rolls with guard words that would change the answer if they were
+//! read; the reference is given the same words. The call can then be held to the reference word by word, to
+//! the boards alone, or to stored tables. Which lengths are tried with which boards is told in `checks`.
 
 use crate::ancestry::ancestry;
-use crate::audit::audit;
+use crate::audit::{audit, is_on_roll, Board};
 use crate::checks::Case;
-use crate::compare::{compare, Board, Comparison, Tables};
+use crate::compare::{compare, Comparison, Tables};
 use crate::format::*;
 use crate::interface::*;
 use crate::random::Random;
 use crate::told::{broken, check_told, PROPERTIES};
 
-/// How often an entry gave each answer: by refusal number, or for comparing 20 apart, 21 same,
-/// 22 collision. 23: an answer buffer too short.
-pub type Tally = [usize; 24];
+/// How often an entry gave each answer: by refusal number, or as follows.
+pub type Tally = [usize; 26];
+
+/// For comparing, and where an answer buffer is too short.
+pub const APART: usize = 22;
+pub const SAME: usize = 23;
+pub const COLLISION: usize = 24;
+pub const SHORT_ANSWER: usize = 25;
 
 /// A call of an entry: what it gave, and its buffers by name.
 pub struct Call<'a> {
@@ -22,13 +27,15 @@ pub struct Call<'a> {
     given: bool,
     expected: bool,
     buffers: Vec<(Buffer, &'static str)>,
+    /// As they were passed, and by name.
+    rolls: Vec<(Lent<'a>, &'static str)>,
     /// In the order in which they are audited.
     boards: Vec<Passed<'a>>,
 }
 
 /// A board that was passed to an entry.
 struct Passed<'a> {
-    words: &'a [u32],
+    board: Board<'a>,
     /// By the answer given.
     accepted: bool,
     /// The place of its index table among the buffers. Its ballot table follows there.
@@ -46,7 +53,8 @@ impl Call<'_> {
         if self.given != self.expected {
             return Err(format!("{} gives {}, not {}", self.entry, self.given, self.expected));
         }
-        let held = self.buffers.iter().try_for_each(|(buffer, what)| buffer.same(what));
+        let buffers = self.buffers.iter().try_for_each(|(buffer, what)| buffer.same(what));
+        let held = buffers.and_then(|()| self.rolls.iter().try_for_each(|(roll, what)| roll.same(what)));
         held.map_err(|message| format!("{}: {message}", self.entry))
     }
 
@@ -54,7 +62,7 @@ impl Call<'_> {
     pub fn hold_told(&self) -> Result<(), String> {
         for board in self.boards.iter().filter(|board| board.accepted) {
             let [(index, what), (ballots, _)] = self.tables(board);
-            check_told(board.words, index.given(), ballots.given())
+            check_told(board.board.words, board.board.roll, index.given(), ballots.given())
                 .map_err(|message| format!("{}: {what}: {message}", self.entry))?;
         }
         Ok(())
@@ -91,7 +99,7 @@ impl Call<'_> {
             return [false; PROPERTIES.len()];
         }
         let [(index, _), (ballots, _)] = self.tables(board);
-        broken(board.words, index.given(), ballots.given()).expect("rows and nothing else")
+        broken(board.board.words, board.board.roll, index.given(), ballots.given()).expect("rows and nothing else")
     }
 }
 
@@ -107,24 +115,26 @@ pub fn call_audit<'a>(
     let [mut index, mut ballots, mut answer] = lengths.map(|len| Buffer::new(len, random));
     let enough = answer.len() >= AUDIT_ANSWER;
     if enough {
-        let report = audit(&case.words, &case.verdicts, &mut index.reference, &mut ballots.reference);
+        let report = audit(&case.words, &case.verdicts, &case.roll, &mut index.reference, &mut ballots.reference);
         put(&mut answer, &audit_words(&report));
         tally[report.number as usize] += 1;
     } else {
-        tally[23] += 1;
+        tally[SHORT_ANSWER] += 1;
     }
     let (il, bl, al) = (index.len(), ballots.len(), answer.len());
-    let (words, verdicts) = (&case.words, &case.verdicts);
+    let board = case.board();
+    let roll = Lent::new(board, random);
     // Each pointer is of a live buffer of at least the length given with it.
     #[rustfmt::skip]
     let given = unsafe {
         (with.audit)(
-            words.as_ptr(), words.len(), verdicts.as_ptr(), verdicts.len(),
-            index.pointer(), il, ballots.pointer(), bl, answer.pointer(), al)
+            board.words.as_ptr(), board.words.len(), board.verdicts.as_ptr(), board.verdicts.len(),
+            roll.pointer(), board.roll.len(), index.pointer(), il, ballots.pointer(), bl, answer.pointer(), al)
     };
-    let boards = vec![Passed { words, accepted: enough && answer.given()[audit_answer::NUMBER] == 0, index: 1 }];
+    let boards = vec![Passed { board, accepted: enough && answer.given()[audit_answer::NUMBER] == 0, index: 1 }];
     let buffers = vec![(answer, "answer"), (index, "index table"), (ballots, "ballot table")];
-    Call { entry: "audit".to_string(), given, expected: enough, buffers, boards }
+    let rolls = vec![(roll, "roll")];
+    Call { entry: "audit".to_string(), given, expected: enough, buffers, rolls, boards }
 }
 
 /// Calls the comparison, and the reference beside it. The lengths are of the kept board's two tables,
@@ -148,25 +158,32 @@ pub fn call_compare<'a>(
         put(&mut answer, &compare_words(&comparison));
         tally[match comparison {
             Comparison::Refused { number, .. } => number as usize,
-            Comparison::Apart => 20,
-            Comparison::Same => 21,
-            Comparison::Collision { .. } => 22,
+            Comparison::Apart => APART,
+            Comparison::Same => SAME,
+            Comparison::Collision { .. } => COLLISION,
         }] += 1;
     } else {
-        tally[23] += 1;
+        tally[SHORT_ANSWER] += 1;
     }
+    let kept_roll = Lent::new(kept, random);
+    let later_roll = Lent::new(later, random);
+    // Equal rolls are at times one.
+    let one = kept.roll == later.roll && random.chance(50);
+    let later_pointer = if one { kept_roll.pointer() } else { later_roll.pointer() };
     #[rustfmt::skip]
     let given = unsafe {
         entry(
             kept.words.as_ptr(), kept.words.len(), kept.verdicts.as_ptr(), kept.verdicts.len(),
-            later.words.as_ptr(), later.words.len(), later.verdicts.as_ptr(), later.verdicts.len(), number,
+            kept_roll.pointer(), kept.roll.len(),
+            later.words.as_ptr(), later.words.len(), later.verdicts.as_ptr(), later.verdicts.len(),
+            later_pointer, later.roll.len(), number,
             ki.pointer(), lengths[0], kb.pointer(), lengths[1],
             li.pointer(), lengths[2], lb.pointer(), lengths[3], answer.pointer(), lengths[4])
     };
     let accepted = if enough { accepted_in_comparison(answer.given()) } else { [false, false] };
     let boards = vec![
-        Passed { words: kept.words, accepted: accepted[0], index: 1 },
-        Passed { words: later.words, accepted: accepted[1], index: 3 },
+        Passed { board: kept, accepted: accepted[0], index: 1 },
+        Passed { board: later, accepted: accepted[1], index: 3 },
     ];
     let buffers = vec![
         (answer, "answer"),
@@ -175,7 +192,8 @@ pub fn call_compare<'a>(
         (li, "later index table"),
         (lb, "later ballot table"),
     ];
-    Some(Call { entry: format!("compare at main {number}"), given, expected: enough, buffers, boards })
+    let rolls = vec![(kept_roll, "kept roll"), (later_roll, "later roll")];
+    Some(Call { entry: format!("compare at main {number}"), given, expected: enough, buffers, rolls, boards })
 }
 
 /// Whether the kept board and the later one were accepted, by a comparison's answer.
@@ -192,8 +210,7 @@ fn accepted_in_comparison(answer: &[u32]) -> [bool; 2] {
 
 /// A case's two boards, the kept one first.
 fn kept_and_later(case: &Case) -> (Board<'_>, Board<'_>) {
-    let own = Board { words: &case.words, verdicts: &case.verdicts };
-    let other = Board { words: &case.other.0, verdicts: &case.other.1 };
+    let (own, other) = (case.board(), case.other.board());
     if case.kept {
         (own, other)
     } else {
@@ -214,27 +231,30 @@ pub fn call_ancestry<'a>(
     let [mut index, mut ballots, mut list, mut answer] = lengths.map(|len| Buffer::new(len, random));
     let number = asked(item_count(case), random);
     let enough = answer.len() >= ANCESTRY_ANSWER;
-    let (words, verdicts) = (&case.words, &case.verdicts);
+    let board = case.board();
+    let roll = Lent::new(board, random);
     if enough {
-        let expected =
-            ancestry(words, verdicts, number, &mut index.reference, &mut ballots.reference, &mut list.reference);
+        let (i, b, l) = (&mut index.reference, &mut ballots.reference, &mut list.reference);
+        let expected = ancestry(board.words, board.verdicts, board.roll, number, i, b, l);
         put(&mut answer, &ancestry_words(&expected));
         tally[expected.number as usize] += 1;
     } else {
-        tally[23] += 1;
+        tally[SHORT_ANSWER] += 1;
     }
     let (il, bl, ll, al) = (index.len(), ballots.len(), list.len(), answer.len());
     #[rustfmt::skip]
     let given = unsafe {
         entry(
-            words.as_ptr(), words.len(), verdicts.as_ptr(), verdicts.len(), number,
+            board.words.as_ptr(), board.words.len(), board.verdicts.as_ptr(), board.verdicts.len(),
+            roll.pointer(), board.roll.len(), number,
             index.pointer(), il, ballots.pointer(), bl, list.pointer(), ll, answer.pointer(), al)
     };
     // 19 is given of a board that was accepted.
     let accepted = enough && matches!(answer.given()[ancestry_answer::NUMBER], 0 | 19);
-    let boards = vec![Passed { words, accepted, index: 2 }];
+    let boards = vec![Passed { board, accepted, index: 2 }];
     let buffers = vec![(answer, "answer"), (list, "list"), (index, "index table"), (ballots, "ballot table")];
-    Some(Call { entry: format!("ancestry of item {number}"), given, expected: enough, buffers, boards })
+    let rolls = vec![(roll, "roll")];
+    Some(Call { entry: format!("ancestry of item {number}"), given, expected: enough, buffers, rolls, boards })
 }
 
 // ---- the numbers that are asked for ----
@@ -269,12 +289,64 @@ fn asked_main(kept: Board, later: Board, random: &mut Random) -> usize {
 
 /// The main items by a walk over the heads, as far as it goes.
 fn main_count(words: &[u32]) -> usize {
-    let (mut place, mut mains) = (0, 0);
-    while place < words.len() && kind(words[place]) != CLOSING {
-        mains += usize::from(kind(words[place]) == MAIN);
-        place += count(words[place]) + FRAME;
+    places(words).filter(|&place| kind(words[place]) == MAIN).count()
+}
+
+// ---- rolls ----
+
+/// A roll that is lent for reading: with a pair of the board on both sides, or where the board itself has
+/// these words.
+struct Lent<'a> {
+    guarded: Vec<u32>,
+    before: Vec<u32>,
+    inside: Option<&'a [u32]>,
+}
+
+impl<'a> Lent<'a> {
+    fn new(board: Board<'a>, random: &mut Random) -> Lent<'a> {
+        let guard = guard_pair(board);
+        let guarded = [&guard, board.roll, &guard].concat();
+        let inside = if random.chance(50) { find(board.words, board.roll) } else { None };
+        Lent { before: guarded.clone(), guarded, inside }
     }
-    mains
+
+    fn pointer(&self) -> *const u32 {
+        match self.inside {
+            Some(words) => words.as_ptr(),
+            None => self.guarded[ROLL_ROW..].as_ptr(),
+        }
+    }
+
+    fn same(&self, what: &str) -> Result<(), String> {
+        match self.guarded == self.before {
+            true => Ok(()),
+            false => Err(format!("a word of the {what}, or beside it, was written")),
+        }
+    }
+}
+
+/// A session's voter and weight, of one that is not on the roll if there is such a session: to read them would
+/// let it pass. Else to read them would make the roll bad.
+fn guard_pair(board: Board) -> [u32; ROLL_ROW] {
+    let is_session = |&place: &usize| board.words[place] == head(MAIN, SESSION, 19) && place + 2 < board.words.len();
+    let mut sessions = places(board.words).filter(is_session).map(|p| [board.words[p + 1], board.words[p + 2]]);
+    let last = sessions.clone().last();
+    let missing = sessions.find(|&[voter, weight]| !is_on_roll(board.roll, voter, weight));
+    missing.or(last).unwrap_or([0, 0])
+}
+
+/// The places of the heads, as far as a walk over them goes.
+pub fn places(words: &[u32]) -> impl Iterator<Item = usize> + Clone + '_ {
+    let is_head = |&place: &usize| place < words.len() && kind(words[place]) != CLOSING;
+    let next = move |&place: &usize| Some(place + count(words[place]) + FRAME).filter(is_head);
+    std::iter::successors(Some(0).filter(is_head), next)
+}
+
+/// The words of a short roll where they stand in the board, with others behind them.
+fn find<'a>(board: &'a [u32], roll: &[u32]) -> Option<&'a [u32]> {
+    let len = Some(roll.len()).filter(|&len| len <= 2 * ROLL_ROW)?;
+    let mut parts = board.windows(len + ROLL_ROW).map(|part| &part[..len]);
+    parts.find(|&words| words == roll)
 }
 
 // ---- buffers ----

@@ -1,17 +1,18 @@
 //! Cases from seeds, the reference held against what their making foretells, and an
 //! implementation behind the C interface held against the reference word by word.
 
-use crate::audit::{audit, refused, Report};
+use crate::audit::{audit, refused, Board, Report};
 use crate::calls::{call_ancestry, call_audit, call_compare, Tally};
 use crate::crowded::{crowded, most_ballots, Fate};
-use crate::damage::{damage_plan, damage_words, no_board};
-use crate::faults::{faults, rank, spoil_more, Fault, Faulty};
+use crate::damage::{damage_plan, damage_roll, damage_words, no_board};
+use crate::faults::{bad_roll, faults, rank, spoil_more, Fault, Faulty};
 use crate::format::*;
 use crate::hidden::remove_hidden;
 use crate::interface::*;
-use crate::plan::Plan;
+use crate::plan::{Laid, Plan};
 use crate::random::Random;
-use crate::reached::{Ballots, WANTED};
+use crate::reached::{Ballots, Roll, ROLLS_WANTED, WANTED};
+use crate::roll::{any_roll, roll_of, voters_of};
 use crate::sha256::sha256;
 use crate::sound::{any_shape, make, Expected, Made, Shape};
 use crate::stand_in::{BALLOTS_NEED_BEFORE, INDEX_NEED_BEFORE};
@@ -33,10 +34,22 @@ pub struct Case {
     pub name: String,
     pub words: Vec<u32>,
     pub verdicts: Vec<u32>,
+    pub roll: Vec<u32>,
     pub known: Known,
     /// A board to compare it with, and whether this one is the kept one.
-    pub other: (Vec<u32>, Vec<u32>),
+    pub other: Laid,
     pub kept: bool,
+}
+
+impl Case {
+    pub fn board(&self) -> Board<'_> {
+        Board { words: &self.words, verdicts: &self.verdicts, roll: &self.roll }
+    }
+
+    /// Other words in the place of the board's, the verdicts and the roll.
+    fn replace(&mut self, laid: Laid) {
+        (self.words, self.verdicts, self.roll) = (laid.words, laid.verdicts, laid.roll);
+    }
 }
 
 /// How a group of cases is made: from a seed.
@@ -89,18 +102,12 @@ fn sound_case(name: String, made: &Made, random: &mut Random) -> Case {
     let end = (0..laid.addresses.len()).rev().find(|&i| made.plan.items[i].kind == MAIN).expect("a main item");
     let other = sibling(made, random).lay(sha256);
     let known = Known::Sound(made.expected.clone(), laid.places, laid.addresses[end]);
-    Case {
-        name,
-        words: laid.words,
-        verdicts: laid.verdicts,
-        known,
-        other: (other.words, other.verdicts),
-        kept: random.chance(50),
-    }
+    let (words, verdicts, roll) = (laid.words, laid.verdicts, laid.roll);
+    Case { name, words, verdicts, roll, known, other, kept: random.chance(50) }
 }
 
 /// A sound board that shares main items with this one: a shorter one, one with other hidden
-/// tracks or signatures, or one that goes another way from some item on.
+/// tracks or signatures, or one that goes another way from some item on. Its roll may be another, or bad.
 fn sibling(made: &Made, random: &mut Random) -> Plan {
     let mut plan = made.plan.clone();
     if random.chance(40) {
@@ -120,6 +127,12 @@ fn sibling(made: &Made, random: &mut Random) -> Plan {
             last.time = last.time.saturating_add(1);
         }
     }
+    match random.below(10) {
+        0 | 1 => plan.roll = roll_of(voters_of(&plan.items)),
+        2 => plan.roll = any_roll(&voters_of(&plan.items), random),
+        3 => damage_roll(&mut plan.roll, random),
+        _ => {}
+    }
     plan
 }
 
@@ -127,7 +140,18 @@ fn board_for_faults(random: &mut Random) -> Made {
     let most = *random.pick(&[20, 60, 120, 120]);
     let mut shape = any_shape(random, most);
     shape.items = shape.items.max(most / 2);
-    make(random, sha256, shape)
+    any_board(random, shape)
+}
+
+/// A sound board of this shape, at times with a voter whose number is at an end.
+fn any_board(random: &mut Random, shape: Shape) -> Made {
+    let mut made = make(random, sha256, shape);
+    let voters: Vec<u32> = voters_of(&made.plan.items).into_keys().collect();
+    if !voters.is_empty() && random.chance(25) {
+        let ends = [0, 1, 0x7fff_ffff, 0x8000_0000, u32::MAX - 1, u32::MAX];
+        made.rename(*random.pick(&voters), *random.pick(&ends));
+    }
+    made
 }
 
 /// Makes a case's name of what it is.
@@ -150,7 +174,7 @@ pub fn case(makers: &Makers, group: Group, seed: u64) -> Case {
     match group {
         Group::Sound => {
             let shape = any_shape(random, *[15, 60, 150].get(seed as usize % 3).unwrap_or(&60));
-            let made = make(random, sha256, shape);
+            let made = any_board(random, shape);
             sound_case(name("sound"), &made, random)
         }
         Group::Faults => case_with_fault(makers, seed).0,
@@ -161,7 +185,8 @@ pub fn case(makers: &Makers, group: Group, seed: u64) -> Case {
             let Some(second) = spoil_more(&mut faulty, random) else { continue };
             let first = if rank(second) < rank(faulty.number) { second } else { faulty.number };
             let what = format!("{} with {second}", fault.reason);
-            let known = Known::Refused(first, faulty.items);
+            // A bad roll is seen before any item.
+            let known = Known::Refused(first, if first == 20 { 0 } else { faulty.items });
             return faulty_case(name(&what), &made, &faulty.plan, known, random);
         },
         Group::Rules => {
@@ -174,14 +199,13 @@ pub fn case(makers: &Makers, group: Group, seed: u64) -> Case {
             let made = board_for_faults(random);
             let mut case = faulty_case(name("words"), &made, &made.plan, Known::Nothing, random);
             if random.chance(2) {
-                case.words.resize(MAX_WORDS + random.between(1, 3), random.word());
-                case.known = Known::Refused(1, 0);
+                oversize(&mut case, 3, random);
             } else if random.chance(15) {
-                (case.words, case.verdicts) = no_board(random);
+                (case.words, case.verdicts, case.roll) = no_board(random);
             } else {
                 let mut laid = made.plan.lay(sha256);
                 damage_words(&mut laid, random);
-                (case.words, case.verdicts) = (laid.words, laid.verdicts);
+                case.replace(laid);
             }
             case
         }
@@ -202,24 +226,30 @@ pub fn case_with_fault(makers: &Makers, seed: u64) -> (Case, Faulty) {
     loop {
         let made = board_for_faults(random);
         if let Some(faulty) = fault.apply(&made, random) {
-            let known = Known::Refused(faulty.number, faulty.items);
             let name = case_name(Group::Faults, seed, &fault.reason);
-            return (faulty_case(name, &made, &faulty.plan, known, random), faulty);
+            let case = match faulty.number {
+                // Another roll, and the board is sound still.
+                0 => sound_case(name, &Made { plan: faulty.plan.clone(), expected: made.expected }, random),
+                number => faulty_case(name, &made, &faulty.plan, Known::Refused(number, faulty.items), random),
+            };
+            return (case, faulty);
         }
     }
 }
 
 fn faulty_case(name: String, made: &Made, plan: &Plan, known: Known, random: &mut Random) -> Case {
-    let laid = plan.lay(sha256);
+    let Laid { words, verdicts, roll, .. } = plan.lay(sha256);
     let other = sibling(made, random).lay(sha256);
-    Case {
-        name,
-        words: laid.words,
-        verdicts: laid.verdicts,
-        known,
-        other: (other.words, other.verdicts),
-        kept: random.chance(50),
+    Case { name, words, verdicts, roll, known, other, kept: random.chance(50) }
+}
+
+/// Makes a board longer than there may be words, by at most so many; at times the roll is bad as well.
+fn oversize(case: &mut Case, more: usize, random: &mut Random) {
+    case.words.resize(MAX_WORDS + random.between(1, more), random.word());
+    if random.chance(50) {
+        case.roll = bad_roll(&case.roll, random);
     }
+    case.known = Known::Refused(1, 0);
 }
 
 /// A board at the limits: exact sizes, many items.
@@ -264,15 +294,13 @@ fn long_case(name: Name, seed: u64, random: &mut Random) -> Case {
         3 => {
             // Over the word limit by one or more, whatever else is wrong.
             let more = *random.pick(&[1, 2, 1000]);
-            case.words.resize(MAX_WORDS + more, random.word());
-            case.known = Known::Refused(1, 0);
+            oversize(&mut case, more, random);
             case.name = name("long, a word too many");
         }
         4 => {
             let mut plan = made.plan.clone();
             damage_plan(&mut plan, random);
-            let laid = plan.lay(sha256);
-            (case.words, case.verdicts) = (laid.words, laid.verdicts);
+            case.replace(plan.lay(sha256));
             case.known = Known::Nothing;
             case.name = name("long, damaged");
         }
@@ -395,13 +423,16 @@ fn full_bit_turned(name: Name, turn: u64, random: &mut Random) -> Case {
 /// Turns a bit of a sound board over, in a part that goes by turns, and notes what it is then.
 /// Not in a head, where what it is depends on the bit.
 fn turn_bit(case: &mut Case, turn: u64, random: &mut Random) {
+    if turn % 6 == 5 {
+        return turn_weight_bit(case, random);
+    }
     let Known::Sound(_, places, _) = &case.known else { panic!("a sound board") };
     let (items, bit) = (places.len(), random.below(32));
     let at = random.below(items);
     let place = places[at];
     let signature = place + count(case.words[place]) + HASHED_FRAME;
     let verdict = at * VERDICT_WORDS;
-    let (on_board, word, refusal) = match turn % 5 {
+    let (on_board, word, refusal) = match turn % 6 {
         0 => (true, random.between(place + 1, signature - 1), Some((7, at))),
         1 => (true, signature + random.below(16), None),
         2 => (true, signature + 16 + random.below(8), Some((7, at))),
@@ -424,10 +455,28 @@ fn turn_bit(case: &mut Case, turn: u64, random: &mut Random) {
     }
 }
 
+/// Turns a bit of a voter's weight on the roll over: the voter's first session is refused.
+fn turn_weight_bit(case: &mut Case, random: &mut Random) {
+    let Known::Sound(_, places, _) = &case.known else { panic!("a sound board") };
+    let voter_at = |&place: &usize| (code(case.words[place]) == SESSION).then(|| case.words[place + 1]);
+    let voters: Vec<u32> = places.iter().filter_map(voter_at).collect();
+    let voter = *random.pick(&voters);
+    let first = places.iter().position(|place| voter_at(place) == Some(voter)).expect("the voter's session");
+    let pair = case.roll.chunks_mut(ROLL_ROW).find(|pair| pair[roll_row::VOTER] == voter).expect("the voter's pair");
+    pair[roll_row::WEIGHT] ^= 1 << random.below(32);
+    case.known = Known::Refused(21, first);
+}
+
 // ---- the reference against what is known ----
 
 /// Audits a case with the reference and holds the answer against the making. Gives the number.
 pub fn check_known(case: &Case) -> Result<u32, String> {
+    if matches!(case.known, Known::Refused(20, _)) {
+        // A short table is seen before a bad roll.
+        for [index, ballots] in TOO_SHORT {
+            check_known_with(case, index, ballots, &Known::Refused(2, 0))?;
+        }
+    }
     check_known_with(case, INDEX_NEED + INDEX_ROW + 1, BALLOTS_NEED + BALLOT_ROW + 1, &case.known)
 }
 
@@ -445,7 +494,7 @@ pub fn check_full(case: &Case) -> Result<bool, String> {
         return Ok(false);
     }
     let (mut index, mut ballots) = (vec![0; FULL_INDEX], vec![0; FULL_TABLE]);
-    let report = audit(&case.words, &case.verdicts, &mut index, &mut ballots);
+    let report = audit(&case.words, &case.verdicts, &case.roll, &mut index, &mut ballots);
     // The last word is a weight, which is at least 1; so is a ballot's main number.
     let all_used = ballots.chunks(BALLOT_ROW).all(|row| row[ballot_row::BALLOT] != 0 && row[ballot_row::WEIGHT] != 0);
     if report.ballots as usize != FULL || !all_used || ballots[FULL_TABLE - 1] == 0 {
@@ -466,7 +515,7 @@ fn check_known_with(case: &Case, index_len: usize, ballots_len: usize, known: &K
         Known::Sound(expected, places, end) => audited.check_sound(expected, places, *end),
     };
     let rows = || match audited.report.number {
-        0 => check_told(&case.words, &audited.index, &audited.ballots),
+        0 => check_told(&case.words, &case.roll, &audited.index, &audited.ballots),
         _ => Ok(()),
     };
     held.and_then(|()| rows()).map_err(|message| format!("{}: {message}", case.name))?;
@@ -487,7 +536,7 @@ struct Audited {
 impl Audited {
     fn new(case: &Case, index_len: usize, ballots_len: usize) -> Audited {
         let (mut index, mut ballots) = (vec![INDEX_JUNK; index_len], vec![BALLOTS_JUNK; ballots_len]);
-        let report = audit(&case.words, &case.verdicts, &mut index, &mut ballots);
+        let report = audit(&case.words, &case.verdicts, &case.roll, &mut index, &mut ballots);
         Audited { report, index, ballots }
     }
 
@@ -551,6 +600,12 @@ pub fn shown(case: &Case) -> [bool; WANTED.len()] {
     let Known::Sound(expected, places, _) = &case.known else { return [false; WANTED.len()] };
     let ballots = Ballots::new(&case.words, places, expected);
     WANTED.map(|(_, shows)| shows(&ballots))
+}
+
+/// Which of what is wanted of rolls a case shows, of whichever board.
+pub fn shown_of_roll(case: &Case, number: u32) -> [bool; ROLLS_WANTED.len()] {
+    let roll = Roll::new(&case.words, &case.roll, number);
+    ROLLS_WANTED.map(|(_, shows)| shows(&roll))
 }
 
 // ---- an implementation against the reference ----
@@ -631,10 +686,16 @@ pub fn broken_by_audit(with: &Interface, case: &Case) -> [bool; PROPERTIES.len()
 
 /// Holds the tables that every entry leaves for a board to these, index table first. In the comparison
 /// the board is both the kept one and the later one.
-pub fn check_tables(with: &Interface, words: &[u32], verdicts: &[u32], tables: &[Vec<u32>; 2]) -> Result<(), String> {
-    let (words, verdicts) = (words.to_vec(), verdicts.to_vec());
-    let other = (words.clone(), verdicts.clone());
-    let case = &Case { name: String::new(), words, verdicts, known: Known::Nothing, other, kept: true };
+pub fn check_tables(with: &Interface, board: Board, tables: &[Vec<u32>; 2]) -> Result<(), String> {
+    let [words, verdicts, roll] = [board.words, board.verdicts, board.roll].map(<[u32]>::to_vec);
+    let other = Laid {
+        words: words.clone(),
+        verdicts: verdicts.clone(),
+        roll: roll.clone(),
+        places: Vec::new(),
+        addresses: Vec::new(),
+    };
+    let case = &Case { name: String::new(), words, verdicts, roll, known: Known::Nothing, other, kept: true };
     let [i, b] = [tables[0].len(), tables[1].len()];
     let (random, tally) = (&mut Random::new(0), &mut Tally::default());
     let calls = [

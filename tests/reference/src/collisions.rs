@@ -1,7 +1,7 @@
 //! Collisions, with a hash so weak that they can be made: what SHA-256 will not show.
 
 use crate::audit::{audit_with, Rules, RULES};
-use crate::compare::{compare_with, Board, Comparison, Tables};
+use crate::compare::{compare_with, Comparison, Tables};
 use crate::format::*;
 use crate::plan::{Laid, Plan};
 use crate::random::Random;
@@ -25,7 +25,7 @@ const WEAK_RULES: Rules = Rules { hash: weak_hash, ..RULES };
 fn run(laid: &Laid) -> (u32, Vec<u32>, Vec<u32>) {
     let mut index = vec![3; INDEX_NEED];
     let mut ballots = vec![4; BALLOTS_NEED];
-    let (report, _) = audit_with(WEAK_RULES, &laid.words, &laid.verdicts, &mut index, &mut ballots);
+    let (report, _) = audit_with(WEAK_RULES, laid.board(), &mut index, &mut ballots);
     (report.number, index, ballots)
 }
 
@@ -34,8 +34,8 @@ fn compare_laid(kept: &Laid, later: &Laid, main_number: usize) -> Comparison {
     let (mut i2, mut b2) = (vec![2; INDEX_NEED], vec![2; BALLOTS_NEED]);
     compare_with(
         WEAK_RULES,
-        Board { words: &kept.words, verdicts: &kept.verdicts },
-        Board { words: &later.words, verdicts: &later.verdicts },
+        kept.board(),
+        later.board(),
         main_number,
         Tables { index: &mut i1, ballots: &mut b1 },
         Tables { index: &mut i2, ballots: &mut b2 },
@@ -139,7 +139,7 @@ pub fn check(seed: u64, seen: &mut Seen) -> Result<(), String> {
         return Ok(());
     }
     // Also where two ballots have one address.
-    check_told(&later.words, &index, &ballots).map_err(|message| format!("collision seed {seed}: {message}"))?;
+    check_told(&later.words, &later.roll, &index, &ballots).map_err(|message| format!("collision seed {seed}: {message}"))?;
     let (kept_mains, later_mains) = (main_words(&kept, &made.plan), main_words(&later, &later_plan));
     for b in 1..=later_mains.len() {
         let expected = judge(&kept_mains, &later_mains, b);

@@ -1,6 +1,6 @@
 //! Comparing a kept board with a later one.
 
-use crate::audit::{audit_with, hashed, Rules, RULES};
+use crate::audit::{audit_with, hashed, Board, Rules, RULES};
 
 #[derive(Clone, Copy, PartialEq, Eq, Debug)]
 pub enum Side {
@@ -24,13 +24,6 @@ pub enum Comparison {
     },
 }
 
-/// A board with its verdicts.
-#[derive(Clone, Copy)]
-pub struct Board<'a> {
-    pub words: &'a [u32],
-    pub verdicts: &'a [u32],
-}
-
 /// The two tables passed for one board.
 pub struct Tables<'a> {
     pub index: &'a mut [u32],
@@ -49,11 +42,11 @@ pub fn compare_with(
     kept_tables: Tables,
     later_tables: Tables,
 ) -> Comparison {
-    let (report, history) = audit_with(rules, kept.words, kept.verdicts, kept_tables.index, kept_tables.ballots);
+    let (report, history) = audit_with(rules, kept, kept_tables.index, kept_tables.ballots);
     let Some(kept_history) = history else {
         return Comparison::Refused { side: Side::Kept, number: report.number, items: report.items };
     };
-    let (report, history) = audit_with(rules, later.words, later.verdicts, later_tables.index, later_tables.ballots);
+    let (report, history) = audit_with(rules, later, later_tables.index, later_tables.ballots);
     let Some(later_history) = history else {
         return Comparison::Refused { side: Side::Later, number: report.number, items: report.items };
     };

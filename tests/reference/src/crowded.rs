@@ -30,7 +30,7 @@ type Step = (usize, u32);
 /// A cast: position of the ballot, voter, weight.
 type Cast = (usize, u32, u32);
 
-/// A voter, with the latest session's weight and key.
+/// A voter, with the weight, 0 until there is a session, and the latest session's key.
 #[derive(Clone)]
 struct Voter {
     number: u32,
@@ -315,14 +315,17 @@ fn add_step(maker: &mut Maker, voter: &mut Voter, code: u32, time: u64, weights:
     voter.latest[code as usize] = maker.add(code, parent, content, time, key);
 }
 
-/// The content of a new session, whose weight and key are the voter's from now on.
+/// The content of a new session, whose key is the voter's from now on. All sessions of a voter have one weight.
 fn new_session(maker: &mut Maker, voter: &mut Voter, weights: Weights) -> Vec<u32> {
-    voter.weight = match weights {
+    let drawn = match weights {
         Weights::Greatest => u32::MAX,
         Weights::Any => maker.random.word().max(1),
         Weights::Mixed if maker.random.chance(20) => u32::MAX,
         Weights::Mixed => maker.random.between(1, 9) as u32,
     };
+    if voter.weight == 0 {
+        voter.weight = drawn;
+    }
     voter.key = maker.random.eight();
     let mut content = vec![voter.number, voter.weight];
     content.extend(voter.key);

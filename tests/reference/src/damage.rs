@@ -1,5 +1,5 @@
 //! Random damage, with no word on which refusal it gives: to plans, so that hashes and links
-//! stay right and the rules decide, and to the words themselves.
+//! stay right and the rules decide, to the words themselves, and to the roll.
 
 use crate::format::*;
 use crate::plan::{Laid, Link, Plan, Previous};
@@ -25,7 +25,7 @@ pub fn damage_plan(plan: &mut Plan, random: &mut Random) {
     for _ in 0..*random.pick(&[1, 1, 1, 2, 3, 6]) {
         let count = plan.items.len();
         let at = random.below(count);
-        match random.below(14) {
+        match random.below(16) {
             0 if at + 1 < count => {
                 let mut order: Vec<usize> = (0..count).collect();
                 order.swap(at, at + 1);
@@ -74,16 +74,42 @@ pub fn damage_plan(plan: &mut Plan, random: &mut Random) {
                 let length = random.below(70);
                 plan.items[at].content.resize(length, 0x0101_0000);
             }
-            _ => plan.closing = Some(Some(CLOSING << 28 | random.below(count + 2) as u32)),
+            13 => plan.closing = Some(Some(CLOSING << 28 | random.below(count + 2) as u32)),
+            _ => damage_roll(&mut plan.roll, random),
         }
+    }
+}
+
+/// A change to a roll: a pair gone, two in each other's place, another weight or number; or as of any words.
+pub fn damage_roll(roll: &mut Vec<u32>, random: &mut Random) {
+    let pairs = roll.len() / ROLL_ROW;
+    if pairs == 0 {
+        *roll = vec![random.word(); random.between(1, 4)];
+        return;
+    }
+    let at = ROLL_ROW * random.below(pairs);
+    match random.below(6) {
+        0 => {
+            roll.drain(at..at + ROLL_ROW);
+        }
+        1 => roll[at + roll_row::WEIGHT] = random.between(0, 9) as u32,
+        2 => roll[at + roll_row::VOTER] ^= 1 << random.below(32),
+        3 => roll[..].rotate_left(ROLL_ROW),
+        4 => {
+            roll.pop();
+        }
+        _ => roll.swap(at, ROLL_ROW * random.below(pairs)),
     }
 }
 
 /// Some changes to the words alone.
 pub fn damage_words(laid: &mut Laid, random: &mut Random) {
     for _ in 0..*random.pick(&[1, 1, 2, 5]) {
-        let on_board = random.chance(75);
-        let words = if on_board { &mut laid.words } else { &mut laid.verdicts };
+        let words = match random.below(8) {
+            0..=4 => &mut laid.words,
+            5 | 6 => &mut laid.verdicts,
+            _ => &mut laid.roll,
+        };
         if words.is_empty() {
             continue;
         }
@@ -116,8 +142,8 @@ pub fn damage_words(laid: &mut Laid, random: &mut Random) {
     }
 }
 
-/// Words that never were a board, at most with heads that look like some.
-pub fn no_board(random: &mut Random) -> (Vec<u32>, Vec<u32>) {
+/// Words that never were a board, at most with heads that look like some; verdicts; and a roll that may rise.
+pub fn no_board(random: &mut Random) -> (Vec<u32>, Vec<u32>, Vec<u32>) {
     let count = random.below(200);
     let mut words = random.words(count);
     if random.chance(60) {
@@ -132,5 +158,11 @@ pub fn no_board(random: &mut Random) -> (Vec<u32>, Vec<u32>) {
         words[0] = *random.pick(&[0x1001_0011, 0x1002_0000, 0x1014_0000, 0x2030_0000, 0xf000_0000]);
     }
     let count = random.below(40);
-    (words, random.words(count))
+    let verdicts = random.words(count);
+    let count = random.below(8);
+    let mut roll = random.words(count);
+    if random.chance(70) {
+        roll.sort_unstable();
+    }
+    (words, verdicts, roll)
 }

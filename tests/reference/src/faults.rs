@@ -1,16 +1,21 @@
 //! Faulty boards: a sound board changed in one place, all else kept right, so that the check
-//! in question is the first to fail. Each fault says which refusal it must give, and where.
+//! in question is the first to fail. Each fault says which refusal it must give, and where. Those of the roll
+//! are in `rolls`, with rolls that are no fault: they give the number 0, and the board is sound still.
 
 use crate::format::*;
 use crate::plan::{Address, Link, Plan, Previous, Spec, GOOD};
 use crate::random::Random;
+use crate::roll::{pairs_of, roll_of};
 use crate::sha256::sha256;
 use crate::sound::{ballot_of, Made};
+
+mod rolls;
+pub use rolls::bad_roll;
 
 /// The changed board and how many items pass.
 type Change = Option<(Plan, usize)>;
 
-/// A way to spoil a board. `code` is the type it is about, or 0.
+/// A way to spoil a board. `code` is the type it is about, or 0; of bad rolls, which of several ways it is.
 pub struct Fault {
     pub number: u32,
     pub reason: String,
@@ -1404,6 +1409,13 @@ fn close_early(made: &Made, _: u32, random: &mut Random) -> Change {
 
 /// Every fault but those of the word and item limits, which take long boards.
 pub fn faults() -> Vec<Fault> {
+    let mut list = plain_faults();
+    list.extend(rolls::roll_faults());
+    list
+}
+
+/// Those that leave the roll alone.
+fn plain_faults() -> Vec<Fault> {
     let mut list = Vec::new();
     let mut one = |number: u32, reason: &str, change: fn(&Made, u32, &mut Random) -> Change| {
         list.push(Fault { number, reason: format!("{number}/{reason}"), code: 0, change });
@@ -1562,9 +1574,12 @@ pub fn faults() -> Vec<Fault> {
 /// The place of a refusal in the order of an item's checks.
 pub fn rank(number: u32) -> u32 {
     match number {
+        20 => 0,
         5 => 1,
         6 => 2,
         4 => 3,
+        21 => rank(13) + 1,
+        14.. => number + 1,
         _ => number,
     }
 }
@@ -1576,9 +1591,12 @@ pub fn spoil_more(faulty: &mut Faulty, random: &mut Random) -> Option<u32> {
         return None;
     }
     let plan = &mut faulty.plan;
+    let voter = plan.items[at].content.first().copied();
+    let is_voters = |s: &Spec| s.code == SESSION && s.content.first().copied() == voter;
+    let first_session = is_voters(&plan.items[at]) && !plan.items[..at].iter().any(is_voters);
     let before = plan.items[..at].iter().rev().find(|s| s.kind == MAIN).map_or(0, |s| s.time);
     let item = &mut plan.items[at];
-    let number = *random.pick(&[4, 5, 6, 7, 8, 9, 10, 14, 15, 16]);
+    let number = *random.pick(&[4, 5, 6, 7, 8, 9, 10, 14, 15, 16, 20, 21]);
     match number {
         4 => {
             let length = item.count.unwrap_or(item.content.len()).min(item.content.len()) + FRAME;
@@ -1593,6 +1611,13 @@ pub fn spoil_more(faulty: &mut Faulty, random: &mut Random) -> Option<u32> {
         14 => item.verdict = 0x4000_0001,
         15 => item.key = random.eight(),
         16 => item.verdict &= !1,
+        20 => plan.roll = bad_roll(&plan.roll, random),
+        // The voter of a session goes from a roll that is good.
+        21 if first_session && faulty.number != 20 => {
+            let mut pairs = pairs_of(&plan.roll);
+            pairs.remove(&item.content[0]);
+            plan.roll = roll_of(pairs);
+        }
         _ => return None,
     }
     Some(number)

@@ -4,6 +4,7 @@ pub const MAX_WORDS: usize = 262_144;
 pub const MAX_ITEMS: usize = 2_048;
 pub const INDEX_ROW: usize = 5;
 pub const BALLOT_ROW: usize = 3;
+pub const ROLL_ROW: usize = 2;
 
 /// The columns of an index row.
 pub mod index_row {
@@ -22,6 +23,16 @@ pub mod ballot_row {
     pub const WEIGHT: usize = 2;
 }
 
+/// The columns of a pair of the roll.
+pub mod roll_row {
+    pub const VOTER: usize = 0;
+    pub const WEIGHT: usize = 1;
+}
+
+/// The most pairs of a roll, and their words.
+pub const MAX_VOTERS: usize = 2_048;
+pub const ROLL_MOST: usize = ROLL_ROW * MAX_VOTERS;
+
 /// The most ballots that a board can count. Each has five items of its own: session, two
 /// commitments, ballot, cast. Five of the config stand before the first session: genesis, contest,
 /// threshold, authorizer, round. That leaves (2,048 - 5) / 5.
@@ -36,6 +47,7 @@ pub const NO_ITEM: u32 = u32::MAX;
 
 const _: () = assert!(MAX_BALLOTS == (MAX_ITEMS - 5) / 5 && BALLOTS_NEED == 1_224);
 const _: () = assert!(INDEX_NEED == 10_240);
+const _: () = assert!(ROLL_MOST == 4_096);
 
 pub const MAIN: u32 = 1;
 pub const HIDDEN: u32 = 2;

@@ -11,6 +11,10 @@ const NAMES: &[(&str, usize)] = &[
     ("TIRFOLMA_INDEX_WORDS", INDEX_NEED),
     ("TIRFOLMA_BALLOT_ROW_WORDS", BALLOT_ROW),
     ("TIRFOLMA_BALLOT_WORDS", BALLOTS_NEED),
+    ("TIRFOLMA_ROLL_ROW_WORDS", ROLL_ROW),
+    ("TIRFOLMA_ROLL_WORDS", ROLL_MOST),
+    ("TIRFOLMA_ROLL_VOTER", roll_row::VOTER),
+    ("TIRFOLMA_ROLL_WEIGHT", roll_row::WEIGHT),
     ("TIRFOLMA_NUMBER", audit_answer::NUMBER),
     ("TIRFOLMA_ITEMS", audit_answer::ITEMS),
     ("TIRFOLMA_MAINS", audit_answer::MAINS),
@@ -184,7 +188,7 @@ fn mistakes(text: &str) -> Result<Vec<Mistake>, String> {
 }
 
 /// What is wrong, the text that goes, the text in its place, and what the check must say.
-const MISTAKES: [[&str; 4]; 15] = [
+const MISTAKES: [[&str; 4]; 18] = [
     ["a length is missing", "#define TIRFOLMA_LIST_WORDS 2048\n", "", "the header does not define TIRFOLMA_LIST_WORDS"],
     [
         "a length is a comment",
@@ -247,6 +251,24 @@ const MISTAKES: [[&str; 4]; 15] = [
         "(TIRFOLMA_BALLOT_ROW_WORDS * 408)",
         "(TIRFOLMA_INDEX_ROW_WORDS * 408)",
         "the header has '(TIRFOLMA_INDEX_ROW_WORDS * 408)' for TIRFOLMA_BALLOT_WORDS, not 1224",
+    ],
+    [
+        "a roll has a pair too many",
+        "(TIRFOLMA_ROLL_ROW_WORDS * 2048)",
+        "(TIRFOLMA_ROLL_ROW_WORDS * 2049)",
+        "the header has '(TIRFOLMA_ROLL_ROW_WORDS * 2049)' for TIRFOLMA_ROLL_WORDS, not 4096",
+    ],
+    [
+        "a pair has no weight",
+        "TIRFOLMA_ROLL_VOTER = 0,\n    TIRFOLMA_ROLL_WEIGHT = 1",
+        "TIRFOLMA_ROLL_VOTER = 0",
+        "the header does not define TIRFOLMA_ROLL_WEIGHT",
+    ],
+    [
+        "a pair has the weight first",
+        "TIRFOLMA_ROLL_VOTER = 0,\n    TIRFOLMA_ROLL_WEIGHT = 1",
+        "TIRFOLMA_ROLL_WEIGHT = 0,\n    TIRFOLMA_ROLL_VOTER = 1",
+        "the header has '0' for TIRFOLMA_ROLL_WEIGHT, not 1",
     ],
     [
         "a product has a name that is defined below it",

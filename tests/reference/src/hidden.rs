@@ -57,7 +57,7 @@ pub fn check_hidden_tracks(seed: u64) -> Result<bool, String> {
     let run = |plan: &Plan| {
         let laid = plan.lay(sha256);
         let (mut index, mut ballots) = (vec![0; INDEX_NEED], vec![0; BALLOTS_NEED]);
-        let report = audit(&laid.words, &laid.verdicts, &mut index, &mut ballots);
+        let report = audit(&laid.words, &laid.verdicts, &laid.roll, &mut index, &mut ballots);
         let items = if report.number == 0 { report.items as usize } else { 0 };
         let closed = closed_mains(&laid.words, &index, items);
         (report.number, report.mains, report.ballots, report.weight, report.end, ballots, closed)
@@ -90,16 +90,17 @@ pub fn bared(makers: &Makers, seed: u64) -> Option<Bared> {
         name: format!("{} without hidden items", board.name),
         words: laid.words,
         verdicts: laid.verdicts,
+        roll: laid.roll,
         known: Known::Refused(faulty.number, mains),
         ..board.clone()
     };
     Some(Bared { reason: makers.fault(seed).reason.clone(), board, bare })
 }
 
-/// Whether a board is refused by one of the checks 7 to 16, at a main item that stands behind hidden ones and
-/// names none of them.
+/// Whether a board is refused by one of the checks 7 to 16, or 21, at a main item that stands behind hidden ones
+/// and names none of them.
 fn is_refused_at_main(faulty: &Faulty) -> bool {
-    if !(7..=16).contains(&faulty.number) {
+    if !matches!(faulty.number, 7..=16 | 21) {
         return false;
     }
     let items = &faulty.plan.items;

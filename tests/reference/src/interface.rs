@@ -50,14 +50,16 @@ pub mod ancestry_answer {
 
 #[rustfmt::skip]
 pub type AuditEntry = unsafe extern "C" fn(
-    *const u32, usize, *const u32, usize, *mut u32, usize, *mut u32, usize, *mut u32, usize) -> bool;
+    *const u32, usize, *const u32, usize, *const u32, usize,
+    *mut u32, usize, *mut u32, usize, *mut u32, usize) -> bool;
 #[rustfmt::skip]
 pub type CompareEntry = unsafe extern "C" fn(
-    *const u32, usize, *const u32, usize, *const u32, usize, *const u32, usize, usize,
+    *const u32, usize, *const u32, usize, *const u32, usize,
+    *const u32, usize, *const u32, usize, *const u32, usize, usize,
     *mut u32, usize, *mut u32, usize, *mut u32, usize, *mut u32, usize, *mut u32, usize) -> bool;
 #[rustfmt::skip]
 pub type AncestryEntry = unsafe extern "C" fn(
-    *const u32, usize, *const u32, usize, usize,
+    *const u32, usize, *const u32, usize, *const u32, usize, usize,
     *mut u32, usize, *mut u32, usize, *mut u32, usize, *mut u32, usize) -> bool;
 
 #[derive(Clone, Copy)]
@@ -117,12 +119,15 @@ pub fn library() -> Option<Interface> {
     extern "C" {
         fn tirfolma_audit(
             board: *const u32, board_len: usize, verdicts: *const u32, verdicts_len: usize,
+            roll: *const u32, roll_len: usize,
             index: *mut u32, index_len: usize, ballots: *mut u32, ballots_len: usize,
             answer: *mut u32, answer_len: usize) -> bool;
         #[cfg(has_compare)]
         fn tirfolma_compare(
             kept: *const u32, kept_len: usize, kept_verdicts: *const u32, kept_verdicts_len: usize,
+            kept_roll: *const u32, kept_roll_len: usize,
             later: *const u32, later_len: usize, later_verdicts: *const u32, later_verdicts_len: usize,
+            later_roll: *const u32, later_roll_len: usize,
             main_number: usize,
             kept_index: *mut u32, kept_index_len: usize, kept_ballots: *mut u32, kept_ballots_len: usize,
             later_index: *mut u32, later_index_len: usize, later_ballots: *mut u32, later_ballots_len: usize,
@@ -130,6 +135,7 @@ pub fn library() -> Option<Interface> {
         #[cfg(has_ancestry)]
         fn tirfolma_ancestry(
             board: *const u32, board_len: usize, verdicts: *const u32, verdicts_len: usize,
+            roll: *const u32, roll_len: usize,
             item_number: usize,
             index: *mut u32, index_len: usize, ballots: *mut u32, ballots_len: usize,
             list: *mut u32, list_len: usize, answer: *mut u32, answer_len: usize) -> bool;

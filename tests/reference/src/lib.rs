@@ -3,9 +3,9 @@
 //! a comparison word by word over the C interface.
 //!
 //! The rules: `sha256`, `format`, `audit`, `compare`, `ancestry`, `program`.
-//! The boards: `random`, `plan`, `sound`, `crowded`, `faults`, `damage`, `collisions`.
-//! The checks: `interface`, `header`, `stand_in`, `told`, `closed`, `opened`, `reached`, `hidden`, `calls`,
-//! `checks`, `stored`.
+//! The boards: `random`, `plan`, `roll`, `sound`, `crowded`, `faults`, `damage`, `collisions`.
+//! The checks: `interface`, `header`, `stand_in`, `told`, `closed`, `opened`, `enrolled`, `reached`, `hidden`,
+//! `calls`, `checks`, `stored`.
 
 pub mod ancestry;
 pub mod audit;
@@ -16,6 +16,7 @@ pub mod collisions;
 pub mod compare;
 pub mod crowded;
 pub mod damage;
+pub mod enrolled;
 pub mod faults;
 pub mod format;
 pub mod header;
@@ -26,6 +27,7 @@ pub mod plan;
 pub mod program;
 pub mod random;
 pub mod reached;
+pub mod roll;
 pub mod sha256;
 pub mod sound;
 pub mod stand_in;

@@ -1,6 +1,7 @@
 //! A board before it is words: items that name each other by position. Laying it out fills in
-//! the links and hashes, so that an item can be changed and all after it stays right.
+//! the links and hashes, so that an item can be changed and all after it stays right. The roll goes with it.
 
+use crate::audit::Board;
 use crate::format::*;
 use crate::sha256::Hash;
 
@@ -52,6 +53,8 @@ pub struct Spec {
 #[derive(Clone, Debug)]
 pub struct Plan {
     pub items: Vec<Spec>,
+    /// The words of the roll.
+    pub roll: Vec<u32>,
     /// The closing word where it is not the right one; `Some(None)` leaves it out.
     pub closing: Option<Option<u32>>,
     /// Words after the closing word, and after the verdicts.
@@ -70,17 +73,25 @@ pub struct Plan {
 pub struct Laid {
     pub words: Vec<u32>,
     pub verdicts: Vec<u32>,
+    pub roll: Vec<u32>,
     /// Where each item's head stands, and its address.
     pub places: Vec<usize>,
     pub addresses: Vec<[u32; 8]>,
 }
 
+impl Laid {
+    pub fn board(&self) -> Board<'_> {
+        Board { words: &self.words, verdicts: &self.verdicts, roll: &self.roll }
+    }
+}
+
 pub const GOOD: u32 = VERDICT << 28 | 1;
 
 impl Plan {
-    pub fn new(items: Vec<Spec>) -> Plan {
+    pub fn new(items: Vec<Spec>, roll: Vec<u32>) -> Plan {
         Plan {
             items,
+            roll,
             closing: None,
             after: Vec::new(),
             verdicts_after: Vec::new(),
@@ -190,6 +201,6 @@ impl Plan {
         if let Some(length) = self.verdicts_cut {
             verdicts.truncate(length);
         }
-        Laid { words, verdicts, places, addresses }
+        Laid { words, verdicts, roll: self.roll.clone(), places, addresses }
     }
 }

@@ -1,4 +1,4 @@
-//! What the auditing program prints for the bytes of its two files.
+//! What the auditing program prints for the bytes of its three files.
 
 use crate::audit::audit;
 use crate::format::{ballot_row, BALLOTS_NEED, BALLOT_ROW, INDEX_NEED};
@@ -7,8 +7,8 @@ use crate::format::{ballot_row, BALLOTS_NEED, BALLOT_ROW, INDEX_NEED};
 pub const PROGRAM_WORDS: usize = 16_384;
 
 /// A file that cannot be opened counts as empty: give no bytes for it.
-pub fn program(board: &[u8], verdicts: &[u8]) -> String {
-    if board.len() % 4 != 0 || verdicts.len() % 4 != 0 {
+pub fn program(board: &[u8], verdicts: &[u8], roll: &[u8]) -> String {
+    if [board, verdicts, roll].iter().any(|file| file.len() % 4 != 0) {
         return "refused 4 at 0\n".to_string();
     }
     if board.len() / 4 > PROGRAM_WORDS {
@@ -16,7 +16,7 @@ pub fn program(board: &[u8], verdicts: &[u8]) -> String {
     }
     let mut index = vec![0; INDEX_NEED];
     let mut ballots = vec![0; BALLOTS_NEED];
-    let report = audit(&words(board), &words(verdicts), &mut index, &mut ballots);
+    let report = audit(&words(board), &words(verdicts), &words(roll), &mut index, &mut ballots);
     if report.number != 0 {
         return format!("refused {} at {}\n", report.number, report.items);
     }

@@ -1,5 +1,7 @@
-//! What sound boards are to show of ballots, who closed them and who opened them, as known from their making.
+//! What there must be boards of. Sound boards are to show ballots, who closed them and who opened them, as known
+//! from their making; all boards together, the ways in which a roll is good, bad, or lacks a voter.
 
+use crate::calls::places;
 use crate::format::*;
 use crate::sound::Expected;
 
@@ -183,5 +185,140 @@ impl Items<'_> {
             overwritten: before(SESSION).any(newer),
             answered: self.under(number, SERVER_OPENING).is_some(),
         }
+    }
+}
+
+// ---- rolls ----
+
+/// A roll, what was said of it and its board, and where it has the voters of the sessions.
+pub struct Roll {
+    /// The refusal, or 0.
+    number: u32,
+    words: Vec<u32>,
+    /// Of each session in order.
+    sessions: Vec<Session>,
+    blank: bool,
+}
+
+struct Session {
+    voter: u32,
+    weight: u32,
+    /// The place of the voter's pair on the roll, from 0.
+    place: Option<usize>,
+}
+
+type ShowsRoll = fn(&Roll) -> bool;
+
+/// What there must be rolls of, by a short name.
+pub const ROLLS_WANTED: [(&str, ShowsRoll); 28] = [
+    ("accepted with no roll words", |r| r.accepted() && r.words.is_empty()),
+    ("accepted with one pair", |r| r.accepted() && r.pairs() == 1),
+    ("accepted with two pairs", |r| r.accepted() && r.pairs() == 2),
+    ("accepted with three pairs or more, an odd number", |r| r.accepted() && r.pairs() >= 3 && r.pairs() % 2 == 1),
+    ("accepted with 2,048 pairs", |r| r.accepted() && r.is_full()),
+    ("a voter at the first place", |r| r.accepted() && r.pairs() > 2 && r.is_used(0)),
+    ("a voter at a middle place", |r| r.accepted() && (1..r.pairs().saturating_sub(1)).any(|at| r.is_used(at))),
+    ("a voter at the last place", |r| r.accepted() && r.pairs() > 2 && r.is_used(r.pairs() - 1)),
+    ("voters at both ends of 2,048 pairs", |r| r.accepted() && r.is_full() && r.is_used(0) && r.is_used(2_047)),
+    ("a session of voter 0", |r| r.accepted() && r.sessions.iter().any(|s| s.voter == 0)),
+    ("a session of voter 4,294,967,295", |r| r.accepted() && r.sessions.iter().any(|s| s.voter == u32::MAX)),
+    ("several sessions of a voter", |r| r.accepted() && r.sessions.iter().any(|s| r.of_voter(s.voter) > 1)),
+    ("a pair of weight 0", |r| r.accepted() && r.any_pair(|_, weight| weight == 0)),
+    ("weights that fall", |r| r.accepted() && r.pairs() > 3 && r.neighbours().all(|[a, b]| r.weight(a) > r.weight(b))),
+    ("20: one word", |r| r.number == 20 && r.words.len() == 1),
+    ("20: an odd number of words", |r| r.number == 20 && r.words.len() % 2 == 1 && r.words.len() > 2),
+    ("20: 4,097 words", |r| r.number == 20 && r.words.len() == 4_097),
+    ("20: 2,049 pairs that rise", |r| r.number == 20 && r.words.len() == 4_098 && r.rises()),
+    ("20: equal neighbours", |r| r.is_uneven(|a, b| a == b)),
+    ("20: falling neighbours", |r| r.is_uneven(|a, b| a > b)),
+    ("20: a blank board", |r| r.number == 20 && r.blank),
+    ("21: an empty roll", |r| r.number == 21 && r.words.is_empty()),
+    ("21: a voter below all", |r| r.is_missing(|voter, pairs| pairs.iter().all(|&other| voter < other))),
+    ("21: a voter between two", |r| {
+        r.is_missing(|voter, pairs| pairs[0] < voter && pairs.last().is_some_and(|&last| voter < last))
+    }),
+    ("21: a voter above all", |r| r.is_missing(|voter, pairs| pairs.iter().all(|&other| voter > other))),
+    ("21: a greater weight than the roll's", |r| r.has_other_weight(|weight, on_roll| weight > on_roll)),
+    ("21: a smaller weight than the roll's", |r| r.has_other_weight(|weight, on_roll| weight < on_roll)),
+    ("21: a voter's second session", |r| {
+        r.number == 21 && r.refused().is_some_and(|(at, s)| r.sessions[..at].iter().any(|t| t.voter == s.voter))
+    }),
+];
+
+impl Roll {
+    pub fn new(words: &[u32], roll: &[u32], number: u32) -> Roll {
+        let is_session = |&place: &usize| code(words[place]) == SESSION && place + 2 < words.len();
+        let session = |place: usize| Session {
+            voter: words[place + 1],
+            weight: words[place + 2],
+            place: roll.chunks_exact(2).position(|pair| pair[0] == words[place + 1]),
+        };
+        // Of other boards some other word may look like a session.
+        let sessions = match number {
+            0 | 21 => places(words).filter(is_session).map(session).collect(),
+            _ => Vec::new(),
+        };
+        let blank = words.is_empty() || kind(words[0]) == CLOSING;
+        Roll { number, words: roll.to_vec(), sessions, blank }
+    }
+
+    fn accepted(&self) -> bool {
+        self.number == 0
+    }
+    fn pairs(&self) -> usize {
+        self.words.len() / 2
+    }
+    fn is_full(&self) -> bool {
+        self.pairs() == 2_048
+    }
+    fn voter(&self, place: usize) -> u32 {
+        self.words[2 * place]
+    }
+    fn weight(&self, place: usize) -> u32 {
+        self.words[2 * place + 1]
+    }
+    fn is_used(&self, place: usize) -> bool {
+        self.sessions.iter().any(|s| s.place == Some(place))
+    }
+    fn of_voter(&self, voter: u32) -> usize {
+        self.sessions.iter().filter(|s| s.voter == voter).count()
+    }
+    fn any_pair(&self, is: fn(u32, u32) -> bool) -> bool {
+        (0..self.pairs()).any(|at| is(self.voter(at), self.weight(at)))
+    }
+
+    /// The places of any two pairs, one behind the other.
+    fn neighbours(&self) -> impl Iterator<Item = [usize; 2]> {
+        (1..self.pairs()).map(|at| [at - 1, at])
+    }
+
+    fn rises(&self) -> bool {
+        self.neighbours().all(|[a, b]| self.voter(a) < self.voter(b))
+    }
+
+    /// Whether it is bad for two neighbours alone.
+    fn is_uneven(&self, are: fn(u32, u32) -> bool) -> bool {
+        let may_be_good = self.words.len() % 2 == 0 && self.pairs() <= 2_048;
+        let uneven = || self.neighbours().any(|[a, b]| are(self.voter(a), self.voter(b)));
+        self.number == 20 && may_be_good && uneven()
+    }
+
+    /// The session that is refused, and its place among the sessions.
+    fn refused(&self) -> Option<(usize, &Session)> {
+        let is_wrong = |s: &Session| s.place.is_none_or(|place| self.weight(place) != s.weight);
+        self.sessions.iter().enumerate().find(|(_, s)| is_wrong(s))
+    }
+
+    /// Whether a session is refused whose voter is not on the roll, and stands so to the voters of it.
+    fn is_missing(&self, stands: fn(u32, &[u32]) -> bool) -> bool {
+        let pairs: Vec<u32> = (0..self.pairs()).map(|at| self.voter(at)).collect();
+        let missing = self.refused().filter(|(_, s)| s.place.is_none());
+        self.number == 21 && !pairs.is_empty() && missing.is_some_and(|(_, s)| stands(s.voter, &pairs))
+    }
+
+    /// Whether a session is refused whose voter is on the roll, with another weight.
+    fn has_other_weight(&self, is: fn(u32, u32) -> bool) -> bool {
+        let weights = self.refused().and_then(|(_, s)| Some((s.weight, self.weight(s.place?))));
+        self.number == 21 && weights.is_some_and(|(weight, on_roll)| is(weight, on_roll))
     }
 }

@@ -3,6 +3,7 @@
 use crate::format::*;
 use crate::plan::{Address, Link, Plan, Previous, Spec, GOOD};
 use crate::random::Random;
+use crate::roll::{any_roll, pairs_of, roll_of, voters_of};
 use crate::sha256::Hash;
 
 /// What a board shall look like.
@@ -61,6 +62,25 @@ pub struct Expected {
 pub struct Made {
     pub plan: Plan,
     pub expected: Expected,
+}
+
+impl Made {
+    /// Gives a voter another number, if no other voter has it.
+    pub fn rename(&mut self, from: u32, to: u32) {
+        let mut pairs = pairs_of(&self.plan.roll);
+        if voters_of(&self.plan.items).contains_key(&to) {
+            return;
+        }
+        let weight = pairs.remove(&from).expect("a voter of the roll");
+        pairs.insert(to, weight);
+        self.plan.roll = roll_of(pairs);
+        for session in self.plan.items.iter_mut().filter(|s| s.code == SESSION && s.content[0] == from) {
+            session.content[0] = to;
+        }
+        for row in self.expected.ballots.iter_mut().filter(|row| row[1] == from) {
+            row[1] = to;
+        }
+    }
 }
 
 #[derive(Clone, Copy)]
@@ -204,7 +224,8 @@ impl Maker<'_> {
         for &(ballot, voter, weight) in &self.counted {
             expected.ballots.push([expected.rows[ballot].mains_before + 1, voter, weight]);
         }
-        Made { plan: Plan::new(self.items), expected }
+        let roll = any_roll(&voters_of(&self.items), self.random);
+        Made { plan: Plan::new(self.items, roll), expected }
     }
 
     fn run(&mut self) {
@@ -459,11 +480,14 @@ impl Maker<'_> {
 
     fn session(&mut self, time: u64) {
         let voter = *self.random.pick(&self.voters);
-        let weight = match self.random.below(8) {
+        let drawn = match self.random.below(8) {
             0 => u32::MAX,
             1 => self.random.word() | 1,
             _ => self.random.between(1, 9) as u32,
         };
+        // The roll has one weight for each voter.
+        let earlier = self.sessions.iter().find(|s| s.voter == voter);
+        let weight = earlier.map_or(drawn, |s| s.weight);
         let key = match self.random.below(12) {
             0 if !self.sessions.is_empty() => self.random.pick(&self.sessions).key,
             _ => self.random.eight(),

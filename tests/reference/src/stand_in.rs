@@ -1,13 +1,15 @@
 //! The reference behind the auditor's C interface, to try the checks with: they must pass it, and must
-//! find each of the mistakes that it can be told to make.
+//! find each of the mistakes that it can be told to make. Those about the roll are in `rolls`.
 
 use crate::ancestry::ancestry_with;
-use crate::audit::{audit_with, is_spoiled, History, Item, Opening, Rules, RULES};
-use crate::compare::{compare_with, Board, Comparison, Side, Tables};
+use crate::audit::{audit_with, is_good_roll, is_spoiled, Board, History, Item, Opening, Rules, RULES};
+use crate::compare::{compare_with, Comparison, Side, Tables};
 use crate::format::*;
 use crate::interface::*;
 use std::slice::{from_raw_parts, from_raw_parts_mut};
 use std::sync::Mutex;
+
+mod rolls;
 
 /// What the ballot table needed before request (viii): a row for each item. A planted mistake
 /// asks for it still, and the checks pass it as a longer table.
@@ -31,10 +33,18 @@ pub enum About {
     Closed,
     /// An opening that is to be refused: it passes.
     Accepted,
-    /// An opening that is to pass: it is refused.
+    /// An opening or a session that is to pass: it is refused.
     Refused,
     /// A main item that depends on hidden ones.
     Hidden,
+    /// A bad roll: it passes, or is refused too soon, too late, or with other tables.
+    BadRoll,
+    /// A session that is not on the roll: it passes.
+    Unenrolled,
+    /// A session that is refused for two reasons, one of them the roll.
+    Order,
+    /// The roll of a comparison's other board.
+    OtherRoll,
 }
 
 /// Makes the mistakes of a list: each has a name, what it is about, and what is wrong.
@@ -91,6 +101,29 @@ mistakes! {
     SpoilBehind, Accepted, "an opening passes with a spoil behind it whose time is not later";
     SpoilOfLaterTime, Refused, "an opening is refused with a spoil before it whose time is later";
     CastOfOpened, Hidden, "a cast of an opened ballot is out of phase, not a second";
+    RollNotTested, BadRoll, "a bad roll is not refused";
+    EqualVoters, BadRoll, "equal voter numbers pass as rising";
+    FirstVoterAlone, BadRoll, "a voter number is compared with the first alone";
+    SignedVoters, BadRoll, "voter numbers are compared as signed numbers";
+    LastVoterUnseen, BadRoll, "the last voter number is compared with none";
+    OddRoll, BadRoll, "an odd number of roll words passes up to 4,096";
+    LongRoll, BadRoll, "2,049 pairs pass";
+    RollAfterBlank, BadRoll, "20 comes after 3";
+    RollBeforeLengths, BadRoll, "20 comes before 1 and 2";
+    RollKeepsTables, BadRoll, "20 leaves the tables as they were";
+    RollNotAsked, Unenrolled, "a session's voter is not sought on the roll";
+    WeightNotCompared, Unenrolled, "a session's weight is not compared";
+    VoterNotCompared, Unenrolled, "a session passes with any voter's weight";
+    LessWeight, Unenrolled, "a session passes with less than the roll's weight";
+    AcrossPairs, Unenrolled, "a session passes with words across two pairs";
+    BehindRoll, Unenrolled, "a session passes with the pair behind the roll";
+    FirstPairUnseen, Refused, "the roll's first pair is not looked at";
+    LastPairUnseen, Refused, "the roll's last pair is not looked at";
+    HalvingMissesLast, Refused, "a search by halving does not look at the last pair left";
+    BallotOnRoll, Refused, "a ballot's first two words are sought on the roll";
+    RollBeforeContent, Order, "21 comes before 13";
+    RollAfterVerdict, Order, "21 comes after 14";
+    RollOfKept, OtherRoll, "the later board is audited with the kept board's roll";
 }
 
 /// The mistake that the stand-in makes.
@@ -105,9 +138,13 @@ fn made() -> Option<Mistake> {
     *MADE.lock().expect("nothing fails while it is held")
 }
 
-/// Runs an entry with the tables that were passed, or with what a mistake makes of them.
-fn with_tables<T>(tables: Tables, run: impl FnOnce(Tables) -> T) -> T {
+/// Runs an entry with the tables that were passed for a board, or with what a mistake makes of them.
+fn with_tables<T>(board: Board, tables: Tables, run: impl FnOnce(Tables) -> T) -> T {
     let Tables { index, ballots } = tables;
+    if made() == Some(Mistake::RollKeepsTables) && !is_good_roll(board.roll) {
+        // With such a roll nothing but zeros is written.
+        return run(Tables { index: &mut index.to_vec(), ballots: &mut ballots.to_vec() });
+    }
     with_index(index, |index| with_ballots(ballots, |ballots| run(Tables { index, ballots })))
 }
 
@@ -158,8 +195,8 @@ fn with_ballots<T>(table: &mut [u32], run: impl FnOnce(&mut [u32]) -> T) -> T {
     }
 }
 
-/// The rules by which the stand-in audits: a mistake about openings, or casts of opened ballots, makes one of
-/// them wrong.
+/// The rules by which the stand-in audits: a mistake about openings, casts of opened ballots, or the roll makes
+/// one of them wrong.
 fn rules() -> Rules {
     let may_open: fn(&Opening) -> bool = match made() {
         Some(Mistake::SpoilNotAskedFor) => |_| true,
@@ -178,7 +215,7 @@ fn rules() -> Rules {
         Some(Mistake::CastOfOpened) => |history, ballot| !is_opened(history, ballot),
         _ => RULES.may_cast,
     };
-    Rules { may_open, may_cast, ..RULES }
+    Rules { may_open, may_cast, is_good_roll: rolls::roll_test(), is_enrolled: rolls::roll_search(), ..RULES }
 }
 
 /// Whether a ballot has a voter opening on its track.
@@ -281,20 +318,26 @@ unsafe fn too_short(answer: *mut u32, answer_len: usize) -> bool {
 #[rustfmt::skip]
 unsafe extern "C" fn stand_in_audit(
     board: *const u32, board_len: usize, verdicts: *const u32, verdicts_len: usize,
+    roll: *const u32, roll_len: usize,
     index: *mut u32, index_len: usize, ballots: *mut u32, ballots_len: usize,
     answer: *mut u32, answer_len: usize,
 ) -> bool {
     if answer_len < AUDIT_ANSWER {
         return too_short(answer, answer_len);
     }
-    let board = Board { words: from_raw_parts(board, board_len), verdicts: from_raw_parts(verdicts, verdicts_len) };
+    let board = Board {
+        words: from_raw_parts(board, board_len),
+        verdicts: from_raw_parts(verdicts, verdicts_len),
+        roll: rolls::lent(roll, roll_len),
+    };
     let tables =
         Tables { index: from_raw_parts_mut(index, index_len), ballots: from_raw_parts_mut(ballots, ballots_len) };
-    let report = with_tables(tables, |Tables { index, ballots }| {
-        let report = audit_with(rules(), board.words, board.verdicts, index, ballots).0;
+    let report = with_tables(board, tables, |Tables { index, ballots }| {
+        let mut report = audit_with(rules(), board, index, ballots).0;
         if report.number == 0 {
             close_wrongly(board, index, Of::OneBoard);
         }
+        report.number = rolls::in_wrong_order(board, report.number, report.items);
         report
     });
     finish(answer, answer_len, &audit_words(&report), [(index, index_len), (ballots, ballots_len)])
@@ -303,7 +346,9 @@ unsafe extern "C" fn stand_in_audit(
 #[rustfmt::skip]
 unsafe extern "C" fn stand_in_compare(
     kept: *const u32, kept_len: usize, kept_verdicts: *const u32, kept_verdicts_len: usize,
+    kept_roll: *const u32, kept_roll_len: usize,
     later: *const u32, later_len: usize, later_verdicts: *const u32, later_verdicts_len: usize,
+    later_roll: *const u32, later_roll_len: usize,
     main_number: usize,
     kept_index: *mut u32, kept_index_len: usize, kept_ballots: *mut u32, kept_ballots_len: usize,
     later_index: *mut u32, later_index_len: usize, later_ballots: *mut u32, later_ballots_len: usize,
@@ -312,10 +357,19 @@ unsafe extern "C" fn stand_in_compare(
     if answer_len < COMPARE_ANSWER {
         return too_short(answer, answer_len);
     }
-    let kept =
-        Board { words: from_raw_parts(kept, kept_len), verdicts: from_raw_parts(kept_verdicts, kept_verdicts_len) };
-    let later =
-        Board { words: from_raw_parts(later, later_len), verdicts: from_raw_parts(later_verdicts, later_verdicts_len) };
+    let kept = Board {
+        words: from_raw_parts(kept, kept_len),
+        verdicts: from_raw_parts(kept_verdicts, kept_verdicts_len),
+        roll: rolls::lent(kept_roll, kept_roll_len),
+    };
+    let mut later = Board {
+        words: from_raw_parts(later, later_len),
+        verdicts: from_raw_parts(later_verdicts, later_verdicts_len),
+        roll: rolls::lent(later_roll, later_roll_len),
+    };
+    if made() == Some(Mistake::RollOfKept) {
+        later.roll = kept.roll;
+    }
     let kept_tables = Tables {
         index: from_raw_parts_mut(kept_index, kept_index_len),
         ballots: from_raw_parts_mut(kept_ballots, kept_ballots_len),
@@ -324,10 +378,14 @@ unsafe extern "C" fn stand_in_compare(
         index: from_raw_parts_mut(later_index, later_index_len),
         ballots: from_raw_parts_mut(later_ballots, later_ballots_len),
     };
-    let comparison = with_tables(kept_tables, |of_kept| with_tables(later_tables, |of_later| {
+    let comparison = with_tables(kept, kept_tables, |of_kept| with_tables(later, later_tables, |of_later| {
         let kept_tables = Tables { index: &mut *of_kept.index, ballots: of_kept.ballots };
         let later_tables = Tables { index: &mut *of_later.index, ballots: of_later.ballots };
-        let comparison = compare_with(rules(), kept, later, main_number, kept_tables, later_tables);
+        let mut comparison = compare_with(rules(), kept, later, main_number, kept_tables, later_tables);
+        if let Comparison::Refused { side, number, items } = &mut comparison {
+            let board = if *side == Side::Kept { kept } else { later };
+            *number = rolls::in_wrong_order(board, *number, *items);
+        }
         let refused = match comparison {
             Comparison::Refused { side, number, .. } if number != 19 => Some(side),
             _ => None,
@@ -347,6 +405,7 @@ unsafe extern "C" fn stand_in_compare(
 #[rustfmt::skip]
 unsafe extern "C" fn stand_in_ancestry(
     board: *const u32, board_len: usize, verdicts: *const u32, verdicts_len: usize,
+    roll: *const u32, roll_len: usize,
     item_number: usize,
     index: *mut u32, index_len: usize, ballots: *mut u32, ballots_len: usize,
     list: *mut u32, list_len: usize, answer: *mut u32, answer_len: usize,
@@ -354,15 +413,20 @@ unsafe extern "C" fn stand_in_ancestry(
     if answer_len < ANCESTRY_ANSWER {
         return too_short(answer, answer_len);
     }
-    let board = Board { words: from_raw_parts(board, board_len), verdicts: from_raw_parts(verdicts, verdicts_len) };
+    let board = Board {
+        words: from_raw_parts(board, board_len),
+        verdicts: from_raw_parts(verdicts, verdicts_len),
+        roll: rolls::lent(roll, roll_len),
+    };
     let tables =
         Tables { index: from_raw_parts_mut(index, index_len), ballots: from_raw_parts_mut(ballots, ballots_len) };
     let written = from_raw_parts_mut(list, list_len);
-    let given = with_tables(tables, |Tables { index, ballots }| {
-        let given = ancestry_with(rules(), board.words, board.verdicts, item_number, index, ballots, written);
+    let given = with_tables(board, tables, |Tables { index, ballots }| {
+        let mut given = ancestry_with(rules(), board, item_number, index, ballots, written);
         if matches!(given.number, 0 | 19) {
             close_wrongly(board, index, Of::OneBoard);
         }
+        given.number = rolls::in_wrong_order(board, given.number, given.count);
         given
     });
     let tables = [(list, list_len), (ballots, ballots_len)];

@@ -1,6 +1,7 @@
-//! Boards stored in folders: board.words, verdicts.words, and what the program prints, expected; in
-//! some also tables, what an audit leaves in both tables.
+//! Boards stored in folders: board.words, verdicts.words, roll.words, and what the program prints, expected;
+//! in some also tables, what an audit leaves in both tables.
 
+use crate::audit::Board;
 use crate::checks::check_tables;
 use crate::interface::Interface;
 use crate::program::{program, words};
@@ -19,18 +20,20 @@ pub struct Stored {
 pub fn check_folder(folder: &Path, library: Option<Interface>) -> Result<Stored, String> {
     let mut stored = Stored::default();
     for path in boards(folder)? {
-        let (board, verdicts) = (read(&path.join("board.words")), read(&path.join("verdicts.words")));
+        let files = ["board.words", "verdicts.words", "roll.words"].map(|file| read(&path.join(file)));
         let expected = fs::read_to_string(path.join("expected")).map_err(|e| e.to_string())?;
-        let printed = program(&board, &verdicts);
+        let printed = program(&files[0], &files[1], &files[2]);
         if printed != expected {
             return Err(format!("{}: expected {expected:?}, the reference prints {printed:?}", path.display()));
         }
         stored.boards += 1;
         if let Ok(text) = fs::read_to_string(path.join("tables")) {
+            let [board, verdicts, roll] = files.map(|file| words(&file));
+            let board = Board { words: &board, verdicts: &verdicts, roll: &roll };
             let tables = tables(&text).map_err(|message| format!("{}: tables: {message}", path.display()))?;
             let sides = [("reference", Some(stand_in())), ("library", library)];
             for (side, with) in sides.into_iter().filter_map(|(side, with)| Some((side, with?))) {
-                check_tables(&with, &words(&board), &words(&verdicts), &tables)
+                check_tables(&with, board, &tables)
                     .map_err(|message| format!("{}: {side}, {message}", path.display()))?;
             }
             stored.tables += 1;

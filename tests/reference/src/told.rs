@@ -1,7 +1,8 @@
-//! What holds of an accepted board's tables, whoever filled them, told from the board's words alone: nothing
-//! of `audit` is used. The properties are in `closed` and `opened`.
+//! What holds of an accepted board's tables, whoever filled them, told from the words of the board and of its
+//! roll alone: nothing of `audit` is used. The properties are in `closed`, `opened` and `enrolled`.
 
 use crate::closed::*;
+use crate::enrolled::*;
 use crate::format::*;
 use crate::opened::*;
 use std::collections::HashMap;
@@ -10,11 +11,26 @@ use std::collections::HashMap;
 /// Written out, not taken from `format`, so that a wrong one there is noticed.
 const ROW_OF_INDEX: usize = 5;
 const ROW_OF_BALLOTS: usize = 3;
+const ROW_OF_ROLL: usize = 2;
 const FIFTH: usize = 4;
 const NOT_IN_USE: u32 = 4_294_967_295;
 
-/// The items of an accepted board as its words have them, and what its tables say of ballots. Items are
-/// numbered from 1, and have the place of their number less one here.
+/// A voter with a weight.
+#[derive(Clone, Copy, PartialEq, Eq, Debug)]
+pub struct Pair {
+    pub voter: u32,
+    pub weight: u32,
+}
+
+impl Pair {
+    /// Of a slice that begins with them.
+    fn at(words: &[u32]) -> Pair {
+        Pair { voter: words[0], weight: words[1] }
+    }
+}
+
+/// The items of an accepted board as its words have them, its roll, and what its tables say of ballots. Items
+/// are numbered from 1, and have the place of their number less one here.
 pub struct Told {
     pub codes: Vec<u32>,
     /// The number of the first item with the address in the parent field, of those among which a type's
@@ -22,15 +38,19 @@ pub struct Told {
     pub parents: Vec<usize>,
     /// The fifth column of the index table.
     pub fifth: Vec<u32>,
-    /// The main numbers of the counted ballots, from the ballot table.
+    /// The main numbers of the counted ballots, from the ballot table, and the voters there.
     pub counted: Vec<u32>,
+    pub rows: Vec<Pair>,
+    /// Of each session, in order.
+    pub sessions: Vec<Pair>,
+    pub roll: Vec<Pair>,
 }
 
 /// Says what is wrong where it does not hold.
 type Property = fn(&Told) -> Result<(), String>;
 
 /// What holds of the tables. Some of these follow from others; each is looked at by itself.
-pub const PROPERTIES: [Property; 7] = [
+pub const PROPERTIES: [Property; 11] = [
     any_two_differ,
     each_closer_is_named_once,
     only_ballots_have_one,
@@ -38,25 +58,42 @@ pub const PROPERTIES: [Property; 7] = [
     each_is_under_its_row,
     no_opened_ballot_is_counted,
     each_opened_ballot_was_spoiled,
+    each_session_is_on_the_roll,
+    each_voter_has_one_weight,
+    each_row_is_on_the_roll,
+    weight_is_at_most_the_rolls,
 ];
 
 /// Holds an accepted board's tables to all of them.
-pub fn check_told(words: &[u32], index: &[u32], ballots: &[u32]) -> Result<(), String> {
-    let told = Told::new(words, index, ballots)?;
+pub fn check_told(words: &[u32], roll: &[u32], index: &[u32], ballots: &[u32]) -> Result<(), String> {
+    let told = Told::new(words, roll, index, ballots)?;
     PROPERTIES.iter().try_for_each(|property| property(&told))
 }
 
 /// Which of them an accepted board's tables break.
-pub fn broken(words: &[u32], index: &[u32], ballots: &[u32]) -> Result<[bool; PROPERTIES.len()], String> {
-    let told = Told::new(words, index, ballots)?;
+pub fn broken(
+    words: &[u32],
+    roll: &[u32],
+    index: &[u32],
+    ballots: &[u32],
+) -> Result<[bool; PROPERTIES.len()], String> {
+    let told = Told::new(words, roll, index, ballots)?;
     Ok(PROPERTIES.map(|property| property(&told).is_err()))
 }
 
 impl Told {
     /// Of tables in which there is a row for each item, some for ballots, and nothing else.
-    fn new(words: &[u32], index: &[u32], ballots: &[u32]) -> Result<Told, String> {
-        let counted = counted(ballots)?;
-        let mut told = Told { codes: Vec::new(), parents: Vec::new(), fifth: Vec::new(), counted };
+    fn new(words: &[u32], roll: &[u32], index: &[u32], ballots: &[u32]) -> Result<Told, String> {
+        let rows = rows(ballots)?;
+        let mut told = Told {
+            codes: Vec::new(),
+            parents: Vec::new(),
+            fifth: Vec::new(),
+            counted: rows.iter().map(|row| row[0]).collect(),
+            rows: rows.iter().map(|row| Pair::at(&row[1..])).collect(),
+            sessions: Vec::new(),
+            roll: roll.chunks_exact(ROW_OF_ROLL).map(Pair::at).collect(),
+        };
         let (mut mains, mut hidden): (HashMap<&[u32], usize>, HashMap<&[u32], usize>) = Default::default();
         let mut rows = index.chunks(ROW_OF_INDEX);
         let mut place = 0;
@@ -67,6 +104,9 @@ impl Told {
             let sought = if code <= TRACK { &mains } else { &hidden };
             told.parents.push(sought.get(&words[parent..parent + 8]).copied().unwrap_or(0));
             told.codes.push(code);
+            if code == SESSION {
+                told.sessions.push(Pair::at(&words[place + 1..]));
+            }
             let own = if kind(words[place]) == MAIN { &mut mains } else { &mut hidden };
             own.entry(&words[address..end]).or_insert(told.codes.len());
             match rows.next() {
@@ -113,12 +153,11 @@ impl Told {
     }
 }
 
-/// The first word of each ballot row, up to the row that has none.
-fn counted(ballots: &[u32]) -> Result<Vec<u32>, String> {
-    let rows = ballots.chunks(ROW_OF_BALLOTS);
-    let counted: Vec<u32> = rows.map(|row| row[0]).take_while(|&main_number| main_number != 0).collect();
-    match ballots[ROW_OF_BALLOTS * counted.len()..].iter().all(|&word| word == 0) {
-        true => Ok(counted),
+/// The ballot rows, up to the one that has no main number.
+fn rows(ballots: &[u32]) -> Result<Vec<&[u32]>, String> {
+    let rows: Vec<&[u32]> = ballots.chunks_exact(ROW_OF_BALLOTS).take_while(|row| row[0] != 0).collect();
+    match ballots[ROW_OF_BALLOTS * rows.len()..].iter().all(|&word| word == 0) {
+        true => Ok(rows),
         false => Err("a word behind the ballot rows is not zero".to_string()),
     }
 }

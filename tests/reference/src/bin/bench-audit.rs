@@ -2,7 +2,8 @@
 //!
 //!   bench-audit [--write FOLDER]     FOLDER gets the boards, for other programs to time
 //!
-//! Every run finds its tables full of an earlier run's words; the audit clears them itself.
+//! Every run finds its tables full of an earlier run's words; the audit clears them itself. The roll is full,
+//! 2,048 pairs, and has the board's voters spread over it.
 //!
 //! Times are of the processor (Linux), not of the wall clock: on a busy machine a run of some
 //! milliseconds is nearly always interrupted. `spread` is the reference's median over its best.
@@ -10,15 +11,18 @@
 //! `us/item` is the library's time for an item: boards of one kind have about as many words to
 //! an item, so it stays where the cost grows with the items and no faster.
 //!
-//! Ends with status 1 where the library misses a bar: the reference's time on every board, and
-//! one and a half times the hashes alone on boards of 2,048 items.
+//! `full/own` is the library's time with the full roll over that with a roll of the board's voters alone.
+//!
+//! Ends with status 1 where the library misses a bar: the reference's time on every board, and on boards of
+//! 2,048 items one and a half times the hashes alone, and hardly more with the full roll than with its own.
 
-use reference::audit::{audit_with, hashed, RULES};
+use reference::audit::{audit_with, hashed, Board, RULES};
 use reference::format::*;
-use reference::interface::{audit_answer, library, AUDIT_ANSWER};
+use reference::interface::{audit_answer, library, Interface, AUDIT_ANSWER};
 use reference::plan::Laid;
 use reference::program::bytes;
 use reference::random::Random;
+use reference::roll::{full_around, roll_of, voters_of};
 use reference::sha256::sha256;
 use reference::sound::{make, Shape};
 use std::fs;
@@ -50,6 +54,8 @@ fn now() -> f64 {
 const BAR_TO_REFERENCE: f64 = 1.0;
 /// And over the hashes alone, on boards with as many items as there may be.
 const BAR_TO_HASHES: f64 = 1.5;
+/// And with a full roll, over the time with a roll of the board's voters alone, on the same boards.
+const BAR_TO_OWN_ROLL: f64 = 1.02;
 
 fn main() {
     let mut args = std::env::args().skip(1);
@@ -65,39 +71,47 @@ fn main() {
             None => "is NOT linked",
         }
     );
-    println!("   items    words  reference   spread  hash only    library  lib/ref  lib/hash  us/item");
+    println!("   items    words  reference   spread  hash only    library  lib/ref  lib/hash  us/item  full/own");
     let shapes = [(100, None), (500, None), (2_048, None), (230, Some(16_384)), (2_048, Some(MAX_WORDS))];
     let mut met = true;
     for (items, words) in shapes {
         let shape = Shape { items, words, long: 10, voters: items / 8, extraction: true };
-        let board = make(&mut Random::new(2026), sha256, shape).plan.lay(sha256);
+        let random = &mut Random::new(2026);
+        let mut plan = make(random, sha256, shape).plan;
+        let voters = voters_of(&plan.items);
+        plan.roll = full_around(&voters, random);
+        let board = plan.lay(sha256);
         if let Some(folder) = &folder {
             write(Path::new(folder), items, &board);
         }
-        met &= row(items, &board);
+        met &= row(items, &board, &roll_of(voters));
     }
     if !met {
-        println!("a bar is missed: lib/ref {BAR_TO_REFERENCE:.2}, lib/hash {BAR_TO_HASHES:.2} at {MAX_ITEMS} items");
+        println!(
+            "a bar is missed: lib/ref {BAR_TO_REFERENCE:.2}; at {MAX_ITEMS} items lib/hash {BAR_TO_HASHES:.2}, \
+             full/own {BAR_TO_OWN_ROLL:.2}"
+        );
         std::process::exit(1);
     }
 }
 
 /// Prints a board's row. Whether the library, where it is linked, keeps within the bars.
-fn row(items: usize, board: &Laid) -> bool {
-    let (words, verdicts) = (&board.words, &board.verdicts);
+fn row(items: usize, laid: &Laid, own_roll: &[u32]) -> bool {
+    let (board, words) = (laid.board(), &laid.words);
+    let own = Board { roll: own_roll, ..board };
     let (mut index, mut ballots) = (vec![7; INDEX_NEED], vec![7; BALLOTS_NEED]);
-    let (report, history) = audit_with(RULES, words, verdicts, &mut index, &mut ballots);
+    let (report, history) = audit_with(RULES, board, &mut index, &mut ballots);
     assert_eq!(report.number, 0, "the board is sound");
     let history = history.expect("a history");
-    let mut answer = [0u32; AUDIT_ANSWER];
-    let (mut by_reference, mut hashes, mut by_library) = (Vec::new(), f64::MAX, f64::MAX);
+    let (mut by_reference, mut hashes) = (Vec::new(), f64::MAX);
+    let (mut by_library, mut with_own) = (f64::MAX, f64::MAX);
     let start = Instant::now();
     let mut rounds = 0;
     // In turns, so that what else the machine does falls on all alike.
     while rounds < 20 || (start.elapsed().as_secs_f64() < 2.0 && rounds < 5_000) {
         rounds += 1;
         let run = now();
-        black_box(audit_with(RULES, black_box(words), verdicts, &mut index, &mut ballots).0);
+        black_box(audit_with(RULES, black_box(board), &mut index, &mut ballots).0);
         by_reference.push(now() - run);
         let run = now();
         for number in 1..=history.items() {
@@ -105,35 +119,45 @@ fn row(items: usize, board: &Laid) -> bool {
         }
         hashes = hashes.min(now() - run);
         if let Some(library) = library() {
-            let run = now();
-            // The buffers live here and have the lengths given with them.
-            #[rustfmt::skip]
-            let written = unsafe {
-                (library.audit)(
-                    black_box(words.as_ptr()), words.len(), verdicts.as_ptr(), verdicts.len(),
-                    index.as_mut_ptr(), index.len(), ballots.as_mut_ptr(), ballots.len(),
-                    answer.as_mut_ptr(), answer.len())
-            };
-            by_library = by_library.min(now() - run);
-            assert!(written, "the answer has room");
-            let given = [answer[audit_answer::NUMBER], answer[audit_answer::ITEMS]];
-            assert_eq!(given, [0, items as u32], "the library accepts the board");
+            by_library = by_library.min(time_library(&library, board, items, &mut index, &mut ballots));
+            with_own = with_own.min(time_library(&library, own, items, &mut index, &mut ballots));
         }
     }
     by_reference.sort_by(f64::total_cmp);
     let reference = by_reference[0];
     let spread = by_reference[rounds / 2] / reference;
     let mut line = format!("{items:>8} {:>8} {reference:>10.1} {spread:>8.2} {hashes:>10.1}", words.len());
-    let (to_reference, to_hashes) = (by_library / reference, by_library / hashes);
+    let (to_reference, to_hashes, to_own) = (by_library / reference, by_library / hashes, by_library / with_own);
     let linked = library().is_some();
     if linked {
         let each = by_library / items as f64;
-        line += &format!(" {by_library:>10.1} {to_reference:>8.2} {to_hashes:>9.2} {each:>8.2}");
+        line += &format!(" {by_library:>10.1} {to_reference:>8.2} {to_hashes:>9.2} {each:>8.2} {to_own:>9.3}");
     } else {
-        line += "          -        -         -        -";
+        line += "          -        -         -        -         -";
     }
     println!("{line}");
-    !linked || to_reference <= BAR_TO_REFERENCE && (items < MAX_ITEMS || to_hashes <= BAR_TO_HASHES)
+    let most_items = to_hashes <= BAR_TO_HASHES && to_own <= BAR_TO_OWN_ROLL;
+    !linked || to_reference <= BAR_TO_REFERENCE && (items < MAX_ITEMS || most_items)
+}
+
+/// The time of one audit by the library, which is to accept the board.
+fn time_library(library: &Interface, board: Board, items: usize, index: &mut [u32], ballots: &mut [u32]) -> f64 {
+    let mut answer = [0u32; AUDIT_ANSWER];
+    let run = now();
+    // The buffers live here and have the lengths given with them.
+    #[rustfmt::skip]
+    let written = unsafe {
+        (library.audit)(
+            black_box(board.words.as_ptr()), board.words.len(), board.verdicts.as_ptr(), board.verdicts.len(),
+            board.roll.as_ptr(), board.roll.len(),
+            index.as_mut_ptr(), index.len(), ballots.as_mut_ptr(), ballots.len(),
+            answer.as_mut_ptr(), answer.len())
+    };
+    let time = now() - run;
+    assert!(written, "the answer has room");
+    let given = [answer[audit_answer::NUMBER], answer[audit_answer::ITEMS]];
+    assert_eq!(given, [0, items as u32], "the library accepts the board");
+    time
 }
 
 fn write(folder: &Path, items: usize, board: &Laid) {
@@ -141,4 +165,5 @@ fn write(folder: &Path, items: usize, board: &Laid) {
     fs::create_dir_all(&folder).expect("a folder for the board");
     fs::write(folder.join("board.words"), bytes(&board.words)).expect("board.words");
     fs::write(folder.join("verdicts.words"), bytes(&board.verdicts)).expect("verdicts.words");
+    fs::write(folder.join("roll.words"), bytes(&board.roll)).expect("roll.words");
 }

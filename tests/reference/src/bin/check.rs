@@ -5,16 +5,19 @@
 //!   check --all-entries ..      a library that is not linked, or lacks an entry, is a failure
 //!   check --stand-in ..         the reference in the library's place, to try the harness
 
-use reference::calls::Tally;
+use reference::audit::Board;
+use reference::calls::{Tally, APART, COLLISION, SAME, SHORT_ANSWER};
 use reference::checks::*;
 use reference::collisions;
 use reference::crowded::crowded;
+use reference::faults::bad_roll;
 use reference::header::{check_header, check_header_mistakes};
 use reference::hidden::{bared, check_bared, check_hidden_tracks, Bared};
 use reference::interface::{library, Interface};
 use reference::program::{bytes, program};
 use reference::random::Random;
-use reference::reached::WANTED;
+use reference::reached::{ROLLS_WANTED, WANTED};
+use reference::roll::{full_around, voters_of};
 use reference::sha256::{check_vectors, sha256};
 use reference::sound::Shape;
 use reference::stand_in::{make_mistake, stand_in, About, Mistake, MISTAKES};
@@ -217,13 +220,16 @@ fn refused_mains() -> Vec<Bared> {
 
 /// The checks themselves are tried on a stand-in that makes a mistake. Those about lengths are to be
 /// found with a full board, by the lengths that are always tried with it; those about who closed a
-/// ballot, and openings that pass, also without the reference.
+/// ballot, and openings and sessions that pass, also without the reference.
 fn mistakes_are_found() {
     let makers = Makers::default();
     let sound: Vec<Case> = (0..400).map(|seed| case(&makers, Group::Sound, seed)).collect();
     let full = [case(&makers, Group::Full, 0)];
     let openings = cases_of(&makers, "11/opening");
     let casts = cases_of(&makers, "12/cast after spoil and opening");
+    let bad_rolls = cases_of(&makers, "20/roll");
+    let unenrolled = cases_of(&makers, "21/roll");
+    let ordered = [cases_of(&makers, "13/roll"), cases_of(&makers, "21/roll, voter missing")].concat();
     let mut broken = [0; PROPERTIES.len()];
     for mistake in [None].into_iter().chain(MISTAKES.iter().copied().map(Some)) {
         make_mistake(mistake);
@@ -234,15 +240,23 @@ fn mistakes_are_found() {
                 (&sound, TOLD),
                 (&openings, ANY_LENGTH),
                 (&casts, ANY_LENGTH),
+                (&bad_rolls, ANY_LENGTH),
+                (&unenrolled, ANY_LENGTH),
+                (&ordered, ANY_LENGTH),
             ],
             Some(About::Words | About::Refused) => &[(&sound, ANY_LENGTH)],
             Some(About::Lengths) => &[(&full, FULL_LENGTHS)],
             Some(About::Closed) => &[(&sound, ANY_LENGTH), (&sound, TOLD)],
             Some(About::Accepted) => &[(&openings, ANY_LENGTH), (&openings, TOLD)],
             Some(About::Hidden) => &[(&casts, ANY_LENGTH)],
+            Some(About::BadRoll) => &[(&bad_rolls, ANY_LENGTH)],
+            Some(About::Unenrolled) => &[(&unenrolled, ANY_LENGTH), (&unenrolled, TOLD)],
+            Some(About::Order) => &[(&ordered, ANY_LENGTH)],
+            Some(About::OtherRoll) => &[(&sound, ANY_LENGTH), (&bad_rolls, ANY_LENGTH), (&unenrolled, ANY_LENGTH)],
         };
         let found: Vec<[usize; 3]> = tried.iter().map(|&(cases, checks)| differences(cases, checks)).collect();
-        let right = found.iter().flatten().all(|&times| (times > 0) == mistake.is_some());
+        let wanted = mistake.map_or([false; 3], entries);
+        let right = found.iter().all(|times| times.map(|times| times > 0) == wanted);
         if !right {
             let what = mistake.map_or("none", Mistake::what);
             fail(&format!("the checks do not see '{what}' as they should: found {found:?} times"));
@@ -255,9 +269,19 @@ fn mistakes_are_found() {
     if broken.contains(&0) {
         fail(&format!("the mistakes break the properties of the tables {broken:?} times, one of them never"));
     }
-    println!("harness    {} planted mistakes are found in each entry", MISTAKES.len());
+    let everywhere = MISTAKES.iter().filter(|&&mistake| entries(mistake) == [true; 3]).count();
+    println!("harness    {everywhere} planted mistakes are found in each entry");
+    println!("           {} more in the comparison, the one entry that can make them", MISTAKES.len() - everywhere);
     let alone = MISTAKES.iter().filter(|&&mistake| found_alone(mistake)).count();
     println!("           {alone} of them without the reference, by {} properties of the tables", PROPERTIES.len());
+}
+
+/// The entries in which a mistake is to be found, of audit, compare and ancestry: all where it can be made.
+fn entries(mistake: Mistake) -> [bool; 3] {
+    match mistake.about() {
+        About::OtherRoll => [false, true, false],
+        _ => [true; 3],
+    }
 }
 
 /// Boards that are refused for a reason that starts so, some for each.
@@ -269,12 +293,13 @@ fn cases_of(makers: &Makers, reason: &str) -> Vec<Case> {
 
 /// Whether a mistake is to be found without the reference.
 fn found_alone(mistake: Mistake) -> bool {
-    matches!(mistake.about(), About::Closed | About::Accepted)
+    matches!(mistake.about(), About::Closed | About::Accepted | About::Unenrolled)
 }
 
-/// The stored tables, too, are to find mistakes about who closed a ballot and about openings.
+/// The stored tables, too, are to find mistakes about who closed a ballot, about openings and about sessions.
 fn stored_tables_find(options: &Options) {
-    let wanted = |about: About| matches!(about, About::Closed | About::Accepted | About::Refused);
+    let wanted =
+        |about: About| matches!(about, About::Closed | About::Accepted | About::Refused | About::Unenrolled);
     find("the stored tables", wanted, || options.boards.iter().all(|folder| check_folder(folder, None).is_ok()));
 }
 
@@ -326,6 +351,8 @@ struct Counts {
     full: [usize; 3],
     /// The sound boards that show each thing that is wanted of ballots.
     shown: [usize; WANTED.len()],
+    /// The boards that show each thing that is wanted of rolls.
+    rolls: [usize; ROLLS_WANTED.len()],
     words: usize,
     by_number: BTreeMap<u32, usize>,
     by_reason: BTreeMap<String, usize>,
@@ -370,6 +397,9 @@ fn hold_reference(case: &Case, group: Group, counts: &mut Counts) -> Result<(), 
     for (times, is_shown) in counts.shown.iter_mut().zip(shown(case)) {
         *times += usize::from(is_shown);
     }
+    for (times, is_shown) in counts.rolls.iter_mut().zip(shown_of_roll(case, number)) {
+        *times += usize::from(is_shown);
+    }
     Ok(())
 }
 
@@ -385,7 +415,9 @@ fn hold_library(
     let tallies = [&mut counts.audit, &mut counts.compare, &mut counts.ancestry];
     for (entry, tally) in tallies.into_iter().enumerate() {
         ANY_LENGTH[entry](with, case, random, tally)?;
-        if matches!(group, Group::Full | Group::Ballots) {
+        // A roll's refusals with all lengths of tables, too: 2 comes before 20, and 20 clears them.
+        let bad_roll = matches!(case.known, Known::Refused(20, _)) && case.words.len() < 2_000;
+        if matches!(group, Group::Full | Group::Ballots) || bad_roll {
             FULL_LENGTHS[entry](with, case, random, tally)?;
         }
     }
@@ -397,7 +429,8 @@ fn hold_library(
 
 /// A sum over the words that are passed for reading, to see that they stay as they are.
 fn sum(case: &Case) -> u64 {
-    let passed = [&case.words, &case.verdicts, &case.other.0, &case.other.1];
+    let other = &case.other;
+    let passed = [&case.words, &case.verdicts, &case.roll, &other.words, &other.verdicts, &other.roll];
     passed.into_iter().flatten().fold(0u64, |sum, &word| sum.rotate_left(7).wrapping_add(u64::from(word) + 1))
 }
 
@@ -406,7 +439,7 @@ fn shares(cases: u64) -> Vec<(Group, u64)> {
     let part = |percent: u64| cases * percent / 100;
     vec![
         (Group::Long, 48.min(cases)),
-        (Group::Full, 40.min(cases)),
+        (Group::Full, 48.min(cases)),
         (Group::Ballots, 16.min(cases)),
         (Group::Sound, part(15)),
         (Group::Faults, part(40)),
@@ -421,7 +454,7 @@ fn cases(options: &Options, with: Option<Interface>) {
     let total = run_cases(options, with);
     print_reference(options, &total, start.elapsed().as_secs_f64());
     if options.cases >= 5_000 && !all_made(&total) {
-        fail("some refusal, reason, full board or sort of ballot was not made, or too rarely");
+        fail("some refusal, reason, full board, sort of ballot or of roll was not made, or too rarely");
     }
     if let Some(with) = with {
         print_library(&with, &total);
@@ -478,19 +511,27 @@ fn print_reference(options: &Options, total: &Counts, seconds: f64) {
         "           full        {filled} with {FULL} counted ballots fill a table of {FULL_TABLE} words, \
          {fewer} count fewer, {refused} are refused"
     );
-    for (at, ((what, _), times)) in WANTED.iter().zip(total.shown).enumerate() {
-        let title = if at == 0 { "ballots" } else { "" };
+    let ballots = WANTED.iter().map(|(what, _)| *what).zip(total.shown);
+    let rolls = ROLLS_WANTED.iter().map(|(what, _)| *what).zip(total.rolls);
+    print_shown("ballots", ballots);
+    print_shown("rolls", rolls);
+}
+
+/// How many boards show each thing that is wanted.
+fn print_shown(title: &str, shown: impl Iterator<Item = (&'static str, usize)>) {
+    for (at, (what, times)) in shown.enumerate() {
+        let title = if at == 0 { title } else { "" };
         println!("           {title:<11} {times} boards: {what}");
     }
 }
 
-/// Whether every refusal, every reason, and enough full boards and ballots of each kind were made.
+/// Whether every refusal, every reason, and enough full boards, ballots and rolls of each kind were made.
 fn all_made(total: &Counts) -> bool {
     // All but 2, which takes a short table whatever the board is.
-    let refusals = [1].into_iter().chain(3..=16).chain([18]).all(|n| total.by_number.contains_key(&n));
+    let refusals = [1].into_iter().chain(3..=16).chain([18, 20, 21]).all(|n| total.by_number.contains_key(&n));
     let reasons = total.by_reason.len() >= Makers::default().faults.len();
     let [filled, fewer, refused] = total.full;
-    let ballots = total.shown.iter().all(|&times| times >= 5);
+    let ballots = total.shown.iter().chain(&total.rolls).all(|&times| times >= 5);
     refusals && reasons && ballots && filled >= 5 && fewer >= 5 && refused >= 10
 }
 
@@ -513,10 +554,10 @@ fn print_library(with: &Interface, total: &Counts) {
 
 fn told(tally: &Tally) -> String {
     let name = |n: usize| match n {
-        20 => "apart".to_string(),
-        21 => "same".to_string(),
-        22 => "collision".to_string(),
-        23 => "short answer".to_string(),
+        APART => "apart".to_string(),
+        SAME => "same".to_string(),
+        COLLISION => "collision".to_string(),
+        SHORT_ANSWER => "short answer".to_string(),
         n => n.to_string(),
     };
     let parts: Vec<String> =
@@ -527,7 +568,8 @@ fn told(tally: &Tally) -> String {
 fn merge(total: &mut Counts, part: Counts) {
     total.boards += part.boards;
     total.words += part.words;
-    for (a, b) in total.full.iter_mut().chain(&mut total.shown).zip(part.full.into_iter().chain(part.shown)) {
+    let totals = total.full.iter_mut().chain(&mut total.shown).chain(&mut total.rolls);
+    for (a, b) in totals.zip(part.full.into_iter().chain(part.shown).chain(part.rolls)) {
         *a += b;
     }
     for (number, count) in part.by_number {
@@ -548,9 +590,9 @@ fn merge(total: &mut Counts, part: Counts) {
 /// The first difference: the case by name, and its words in files.
 fn report(options: &Options, case: &Case, message: &str) -> ! {
     println!("FAILED     {}: {message}", case.name);
-    dump(&options.dump, &case.words, &case.verdicts);
+    dump(&options.dump, case.board());
     let other = options.dump.join("other");
-    dump(&other, &case.other.0, &case.other.1);
+    dump(&other, case.other.board());
     println!("           the board is in {}, the one compared with in {}", options.dump.display(), other.display());
     println!(
         "           the case is {} in the comparison",
@@ -563,11 +605,13 @@ fn report(options: &Options, case: &Case, message: &str) -> ! {
     exit(1);
 }
 
-fn dump(folder: &Path, words: &[u32], verdicts: &[u32]) {
+fn dump(folder: &Path, board: Board) {
+    let [words, verdicts, roll] = [board.words, board.verdicts, board.roll].map(bytes);
     let _ = fs::create_dir_all(folder);
-    let _ = fs::write(folder.join("board.words"), bytes(words));
-    let _ = fs::write(folder.join("verdicts.words"), bytes(verdicts));
-    let _ = fs::write(folder.join("expected"), program(&bytes(words), &bytes(verdicts)));
+    let _ = fs::write(folder.join("board.words"), &words);
+    let _ = fs::write(folder.join("verdicts.words"), &verdicts);
+    let _ = fs::write(folder.join("roll.words"), &roll);
+    let _ = fs::write(folder.join("expected"), program(&words, &verdicts, &roll));
 }
 
 fn only(options: &Options, group: Group, seed: u64) {
@@ -587,18 +631,20 @@ struct Auditor {
 }
 
 impl Auditor {
-    /// Runs it on these files and holds what it prints to the reference; none: there is no such file.
-    fn hold(&mut self, name: &str, board: Option<&[u8]>, verdicts: Option<&[u8]>) {
+    /// Runs it on a board, verdicts and a roll, and holds what it prints to the reference; none: there is no such
+    /// file.
+    fn hold(&mut self, name: &str, files: [Option<&[u8]>; 3]) {
         let _ = fs::remove_dir_all(&self.folder);
         fs::create_dir_all(&self.folder).expect("a folder for temporary files");
-        for (file, content) in [("board.words", board), ("verdicts.words", verdicts)] {
+        for (file, content) in ["board.words", "verdicts.words", "roll.words"].iter().zip(files) {
             if let Some(content) = content {
                 fs::write(self.folder.join(file), content).expect("a temporary file");
             }
         }
         let output = Command::new(&self.path).current_dir(&self.folder).output();
         let output = output.unwrap_or_else(|e| fail(&format!("{}: {e}", self.path.display())));
-        let expected = program(board.unwrap_or(&[]), verdicts.unwrap_or(&[]));
+        let [board, verdicts, roll] = files.map(|file| file.unwrap_or(&[]));
+        let expected = program(board, verdicts, roll);
         if output.stdout != expected.as_bytes() {
             let printed = String::from_utf8_lossy(&output.stdout).into_owned();
             fail(&format!(
@@ -611,9 +657,9 @@ impl Auditor {
 
     /// Holds it on a case, the files of which are at times cut, longer or missing.
     fn hold_odd(&mut self, case: &Case, seed: u64) {
-        let (mut board, mut verdicts) = (bytes(&case.words), bytes(&case.verdicts));
+        let [mut board, mut verdicts, mut roll] = [&case.words, &case.verdicts, &case.roll].map(|words| bytes(words));
         let random = &mut Random::new(seed);
-        let kind = seed % 16;
+        let kind = seed % 22;
         match kind {
             1 => board.truncate(board.len().saturating_sub(random.between(1, 3))),
             2 => verdicts.extend(vec![0; random.between(1, 3)]),
@@ -621,22 +667,39 @@ impl Auditor {
             4 => board.resize(16_384 * 4, 0),
             5 => board.resize(16_385 * 4, 0),
             6 => board.resize(100_000 * 4 + random.below(2), 0),
+            9 => roll.extend(vec![0; random.between(1, 3)]),
+            10 => roll.truncate(roll.len().saturating_sub(random.between(1, 3))),
+            11 => roll = bytes(&bad_roll(&case.roll, random)),
+            // A board and a roll that are too long; too long a roll alone.
+            12 => (board, roll) = (vec![0; 16_385 * 4], vec![255; 4_098 * 4]),
+            13 => roll.resize(4 * random.between(4_097, 200_000), 255),
+            14 => roll.resize(4 * 4_096, 255),
             _ => {}
         }
-        self.hold(&case.name, (kind != 7).then_some(&board[..]), (kind != 8).then_some(&verdicts[..]));
+        self.hold(
+            &case.name,
+            [
+                (kind != 7).then_some(&board[..]),
+                (kind != 8).then_some(&verdicts[..]),
+                (kind != 15).then_some(&roll[..]),
+            ],
+        );
     }
 }
 
-/// The files of a board with as many counted ballots as one that the program takes can have.
-fn most_ballots(seed: u64) -> (Vec<u8>, Vec<u8>) {
+/// The files of a board with as many counted ballots as one that the program takes can have, and a full roll.
+fn most_ballots(seed: u64) -> [Vec<u8>; 3] {
     let shape = Shape { items: 5 + 5 * 59, words: None, long: 0, voters: 59, extraction: false };
-    let laid = crowded(&mut Random::new(seed), shape).plan.lay(sha256);
-    let (board, verdicts) = (bytes(&laid.words), bytes(&laid.verdicts));
-    let printed = program(&board, &verdicts);
+    let random = &mut Random::new(seed);
+    let mut plan = crowded(random, shape).plan;
+    plan.roll = full_around(&voters_of(&plan.items), random);
+    let laid = plan.lay(sha256);
+    let [board, verdicts, roll] = [&laid.words, &laid.verdicts, &laid.roll].map(|words| bytes(words));
+    let printed = program(&board, &verdicts, &roll);
     if !printed.starts_with("accepted 300 300 59 ") || printed.lines().count() != 1 + 59 {
         fail(&format!("59 counted ballots, seed {seed}: made sound, the reference prints {printed:?}"));
     }
-    (board, verdicts)
+    [board, verdicts, roll]
 }
 
 /// Runs the auditing program on made boards, and on files of odd sizes.
@@ -644,21 +707,22 @@ fn programs(options: &Options, path: &Path) {
     let path = fs::canonicalize(path).unwrap_or_else(|e| fail(&format!("{}: {e}", path.display())));
     let folder = std::env::temp_dir().join(format!("tirfolma-check-{}", std::process::id()));
     let mut auditor = Auditor { path, folder, runs: 0 };
-    auditor.hold("no files", None, None);
+    auditor.hold("no files", [None; 3]);
     let makers = Makers::default();
     for seed in 0..400 {
         let group = GROUPS[seed as usize % 5];
         auditor.hold_odd(&case(&makers, group, options.seed + seed), seed);
     }
     for seed in 0..4 {
-        let (board, verdicts) = most_ballots(seed);
-        auditor.hold("59 counted ballots", Some(&board), Some(&verdicts));
+        let files = most_ballots(seed);
+        auditor.hold("59 counted ballots", files.each_ref().map(|file| Some(&file[..])));
     }
     // The largest board that the program takes.
     for seed in 0..4 {
         let case = case(&makers, Group::Long, 4 * seed + 3);
-        auditor.hold(&case.name, Some(&bytes(&case.words)), Some(&bytes(&case.verdicts)));
+        let files = [&case.words, &case.verdicts, &case.roll].map(|words| bytes(words));
+        auditor.hold(&case.name, files.each_ref().map(|file| Some(&file[..])));
     }
     let _ = fs::remove_dir_all(&auditor.folder);
-    println!("program    {} pairs of files print what the reference does", auditor.runs);
+    println!("program    {} sets of files print what the reference does", auditor.runs);
 }

@@ -17,7 +17,7 @@ fn main() {
     let laid = made.plan.lay(sha256);
     write(folder, "election", &laid);
 
-    let mut genesis = Plan::new(made.plan.items[..1].to_vec());
+    let mut genesis = Plan::new(made.plan.items[..1].to_vec(), Vec::new());
     genesis.items[0].time = 1_790_000_000_000;
     write(folder, "genesis-alone", &genesis.lay(sha256));
 
@@ -135,11 +135,12 @@ fn counted_ballot(made: &Made) -> usize {
 
 fn write(folder: &Path, name: &str, laid: &Laid) {
     let folder = folder.join(name);
-    let (board, verdicts) = (bytes(&laid.words), bytes(&laid.verdicts));
-    let printed = program(&board, &verdicts);
+    let [board, verdicts, roll] = [&laid.words, &laid.verdicts, &laid.roll].map(|words| bytes(words));
+    let printed = program(&board, &verdicts, &roll);
     print!("{name}: {printed}");
     fs::create_dir_all(&folder).expect("a folder for the sample");
     fs::write(folder.join("board.words"), board).expect("board.words");
     fs::write(folder.join("verdicts.words"), verdicts).expect("verdicts.words");
+    fs::write(folder.join("roll.words"), roll).expect("roll.words");
     fs::write(folder.join("expected"), printed).expect("expected");
 }
