@@ -79,8 +79,7 @@ pub struct Rules {
 }
 
 /// As the paper has them.
-pub const RULES: Rules =
-    Rules { hash: sha256, may_open: is_spoiled, may_cast: |_, _| true, is_good_roll, is_enrolled };
+pub const RULES: Rules = Rules { hash: sha256, may_open: is_spoiled, may_cast: |_, _| true, is_good_roll, is_enrolled };
 
 /// A voter opening in hand.
 pub struct Opening<'a> {
@@ -328,12 +327,7 @@ fn walk(rules: Rules, given: Board) -> Result<History, Refusal> {
 }
 
 /// Checks 7 to 16 of one item, and 21. Gives the item numbers of its parent and session.
-fn check(
-    rules: Rules,
-    given: Board,
-    history: &History,
-    item: &Candidate,
-) -> Result<(usize, Option<usize>), u32> {
+fn check(rules: Rules, given: Board, history: &History, item: &Candidate) -> Result<(usize, Option<usize>), u32> {
     let (board, verdicts) = (given.words, given.verdicts);
     let number = history.items() + 1;
 

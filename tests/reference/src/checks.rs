@@ -9,10 +9,10 @@ use crate::faults::{bad_roll, faults, rank, spoil_more, Fault, Faulty};
 use crate::format::*;
 use crate::hidden::remove_hidden;
 use crate::interface::*;
-use crate::plan::{Laid, Plan};
+use crate::plan::{Laid, Plan, Spec};
 use crate::random::Random;
 use crate::reached::{Ballots, Roll, ROLLS_WANTED, WANTED};
-use crate::roll::{any_roll, roll_of, voters_of};
+use crate::roll::{any_roll, full_around, roll_of, voters_of};
 use crate::sha256::sha256;
 use crate::sound::{any_shape, make, Expected, Made, Shape};
 use crate::stand_in::{BALLOTS_NEED_BEFORE, INDEX_NEED_BEFORE};
@@ -453,6 +453,38 @@ fn turn_bit(case: &mut Case, turn: u64, random: &mut Random) {
     if let Some((number, items)) = refusal {
         case.known = Known::Refused(number, items);
     }
+}
+
+/// A small board with every number of roll words, from none to more than there may be: the same roll, which has
+/// the board's voters spread over it, is cut there.
+pub fn roll_lengths() -> Vec<Case> {
+    let random = &mut Random::new(4_096);
+    let shape = Shape { items: 40, words: None, long: 0, voters: 4, extraction: true };
+    let made = loop {
+        let made = make(random, sha256, shape);
+        if voters_of(&made.plan.items).len() > 2 {
+            break made;
+        }
+    };
+    let mut roll = full_around(&voters_of(&made.plan.items), random);
+    // Behind the last: two pairs more, and a word.
+    let last = roll[roll.len() - ROLL_ROW];
+    assert!(last < u32::MAX - 3, "there are numbers behind the last");
+    roll.extend([last + 1, 1, last + 2, 1, last + 3]);
+    let sound = sound_case(String::new(), &made, random);
+    (0..=roll.len()).map(|len| with_cut_roll(&sound, &made.plan, &roll[..len])).collect()
+}
+
+/// A sound board with the first words of a roll that has its voters.
+fn with_cut_roll(sound: &Case, plan: &Plan, roll: &[u32]) -> Case {
+    let has = |voter: &[u32]| roll.chunks(ROLL_ROW).any(|pair| pair == voter);
+    let is_missing = |s: &Spec| s.code == SESSION && !has(&s.content[..ROLL_ROW]);
+    let known = match plan.items.iter().position(is_missing) {
+        _ if roll.len() % ROLL_ROW == 1 || roll.len() > ROLL_MOST => Known::Refused(20, 0),
+        Some(at) => Known::Refused(21, at),
+        None => sound.known.clone(),
+    };
+    Case { name: format!("{} roll words", roll.len()), roll: roll.to_vec(), known, ..sound.clone() }
 }
 
 /// Turns a bit of a voter's weight on the roll over: the voter's first session is refused.

@@ -139,7 +139,8 @@ pub fn check(seed: u64, seen: &mut Seen) -> Result<(), String> {
         return Ok(());
     }
     // Also where two ballots have one address.
-    check_told(&later.words, &later.roll, &index, &ballots).map_err(|message| format!("collision seed {seed}: {message}"))?;
+    check_told(&later.words, &later.roll, &index, &ballots)
+        .map_err(|message| format!("collision seed {seed}: {message}"))?;
     let (kept_mains, later_mains) = (main_words(&kept, &made.plan), main_words(&later, &later_plan));
     for b in 1..=later_mains.len() {
         let expected = judge(&kept_mains, &later_mains, b);

@@ -71,12 +71,7 @@ pub fn check_told(words: &[u32], roll: &[u32], index: &[u32], ballots: &[u32]) -
 }
 
 /// Which of them an accepted board's tables break.
-pub fn broken(
-    words: &[u32],
-    roll: &[u32],
-    index: &[u32],
-    ballots: &[u32],
-) -> Result<[bool; PROPERTIES.len()], String> {
+pub fn broken(words: &[u32], roll: &[u32], index: &[u32], ballots: &[u32]) -> Result<[bool; PROPERTIES.len()], String> {
     let told = Told::new(words, roll, index, ballots)?;
     Ok(PROPERTIES.map(|property| property(&told).is_err()))
 }

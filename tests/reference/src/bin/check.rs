@@ -113,6 +113,7 @@ fn main() {
     if options.all_entries && !whole {
         fail("the library is not linked, or lacks an entry");
     }
+    rolls_of_each_length(with);
     cases(&options, with);
     match &options.program {
         Some(path) => programs(&options, path),
@@ -298,8 +299,7 @@ fn found_alone(mistake: Mistake) -> bool {
 
 /// The stored tables, too, are to find mistakes about who closed a ballot, about openings and about sessions.
 fn stored_tables_find(options: &Options) {
-    let wanted =
-        |about: About| matches!(about, About::Closed | About::Accepted | About::Refused | About::Unenrolled);
+    let wanted = |about: About| matches!(about, About::Closed | About::Accepted | About::Refused | About::Unenrolled);
     find("the stored tables", wanted, || options.boards.iter().all(|folder| check_folder(folder, None).is_ok()));
 }
 
@@ -432,6 +432,24 @@ fn sum(case: &Case) -> u64 {
     let other = &case.other;
     let passed = [&case.words, &case.verdicts, &case.roll, &other.words, &other.verdicts, &other.roll];
     passed.into_iter().flatten().fold(0u64, |sum, &word| sum.rotate_left(7).wrapping_add(u64::from(word) + 1))
+}
+
+/// A board with rolls of each length: the reference, and every entry of the library.
+fn rolls_of_each_length(with: Option<Interface>) {
+    let (mut numbers, random, tally) = (BTreeMap::new(), &mut Random::new(1), &mut Tally::default());
+    let cases = roll_lengths();
+    for case in &cases {
+        let held = check_known(case).and_then(|number| {
+            *numbers.entry(number).or_insert(0) += 1;
+            let checks = with.iter().flat_map(|with| ANY_LENGTH.map(|check| (with, check)));
+            checks.into_iter().try_for_each(|(with, check)| check(with, case, random, tally))
+        });
+        if let Err(message) = held {
+            fail(&format!("a roll of each length, {}: {message}", case.name));
+        }
+    }
+    let numbers: Vec<String> = numbers.iter().map(|(n, count)| format!("{n}:{count}")).collect();
+    println!("rolls      {} lengths, from 0 words on; by refusal  {}", cases.len(), numbers.join(" "));
 }
 
 /// How many cases of each group make up a run of `cases`.

@@ -5,6 +5,7 @@ use reference::format::*;
 use reference::plan::{Laid, Plan};
 use reference::program::{bytes, program};
 use reference::random::Random;
+use reference::roll::{pairs_of, roll_of, voters_of};
 use reference::sha256::sha256;
 use reference::sound::{ballot_of, make, Made, Shape};
 use std::fs;
@@ -13,7 +14,8 @@ use std::path::Path;
 fn main() {
     let folder = std::env::args().nth(1).expect("usage: make-samples FOLDER");
     let folder = Path::new(&folder);
-    let made = election();
+    let mut made = election();
+    made.plan.roll = roll(&made);
     let laid = made.plan.lay(sha256);
     write(folder, "election", &laid);
 
@@ -61,6 +63,36 @@ fn main() {
     plan.insert(opening + 1, moved);
     plan.remove(spoil, 0);
     write(folder, "opening-before-spoil", &plan.lay(sha256));
+
+    // The voter of the last counted ballot is not on the roll.
+    let voter = made.expected.ballots.last().expect("a counted ballot")[1];
+    let mut plan = made.plan.clone();
+    let mut pairs = pairs_of(&plan.roll);
+    pairs.remove(&voter);
+    plan.roll = roll_of(pairs);
+    write(folder, "not-on-roll", &plan.lay(sha256));
+
+    // The same voter has a session with one vote more than the roll gives.
+    let mut plan = made.plan.clone();
+    let session = position(&made, |i| made.plan.items[i].code == SESSION && made.plan.items[i].content[0] == voter);
+    plan.items[session].content[1] += 1;
+    write(folder, "other-weight", &plan.lay(sha256));
+
+    // Two pairs of the roll are in each other's place.
+    let mut plan = made.plan.clone();
+    let middle = plan.roll.len() / 2 / ROLL_ROW * ROLL_ROW;
+    plan.roll[middle - ROLL_ROW..middle + ROLL_ROW].rotate_left(ROLL_ROW);
+    write(folder, "roll-not-rising", &plan.lay(sha256));
+}
+
+/// The election's roll: those who vote, and four who do not, one of them without a vote.
+fn roll(made: &Made) -> Vec<u32> {
+    let mut pairs = voters_of(&made.plan.items);
+    for (voter, weight) in [(57, 3), (401, 1), (702, 0), (918, 12)] {
+        let other = pairs.insert(voter, weight);
+        assert!(other.is_none(), "nobody votes under this number");
+    }
+    roll_of(pairs)
 }
 
 /// An election with counted ballots, a spoiled one that is opened while votes are still cast and would count

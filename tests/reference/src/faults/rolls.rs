@@ -500,10 +500,9 @@ fn falling_weights(made: &Made, _: u32, random: &mut Random) -> Change {
     let (&first, &most) = pairs.first_key_value()?;
     let (&last, &least) = pairs.last_key_value()?;
     for step in 1..=random.between(2, 9) as u32 {
-        for (voter, weight) in [
-            (first.checked_sub(step), most.checked_add(step)),
-            (last.checked_add(step), least.checked_sub(step)),
-        ] {
+        for (voter, weight) in
+            [(first.checked_sub(step), most.checked_add(step)), (last.checked_add(step), least.checked_sub(step))]
+        {
             if let (Some(voter), Some(weight)) = (voter, weight) {
                 pairs.insert(voter, weight);
             }

@@ -59,15 +59,19 @@ pub fn roll_search() -> fn(&[u32], u32, &[u32]) -> bool {
         Some(Mistake::LessWeight) => {
             |roll, code, content| code != SESSION || any_pair(roll, |v, weight| v == content[0] && weight >= content[1])
         }
-        Some(Mistake::AcrossPairs) => |roll, code, content| code != SESSION || roll.windows(2).any(|w| *w == content[..2]),
-        Some(Mistake::FirstPairUnseen) => |roll, code, content| is_enrolled(roll.get(ROLL_ROW..).unwrap_or(&[]), code, content),
+        Some(Mistake::AcrossPairs) => {
+            |roll, code, content| code != SESSION || roll.windows(2).any(|w| *w == content[..2])
+        }
+        Some(Mistake::FirstPairUnseen) => {
+            |roll, code, content| is_enrolled(roll.get(ROLL_ROW..).unwrap_or(&[]), code, content)
+        }
         Some(Mistake::LastPairUnseen) => {
             |roll, code, content| is_enrolled(&roll[..roll.len().saturating_sub(ROLL_ROW)], code, content)
         }
         Some(Mistake::HalvingMissesLast) => |roll, code, content| code != SESSION || is_found_by_halving(roll, content),
-        Some(Mistake::BallotOnRoll) => |roll, code, content| {
-            !matches!(code, SESSION | BALLOT) || is_on_roll(roll, content[0], content[1])
-        },
+        Some(Mistake::BallotOnRoll) => {
+            |roll, code, content| !matches!(code, SESSION | BALLOT) || is_on_roll(roll, content[0], content[1])
+        }
         _ => RULES.is_enrolled,
     }
 }
