@@ -24,6 +24,8 @@ pub const SHORT_ANSWER: usize = 25;
 /// A call of an entry: what it gave, and its buffers by name.
 pub struct Call<'a> {
     entry: String,
+    /// What the answer says of the first board.
+    said: Option<Said>,
     given: bool,
     expected: bool,
     buffers: Vec<(Buffer, &'static str)>,
@@ -31,6 +33,13 @@ pub struct Call<'a> {
     rolls: Vec<(Lent<'a>, &'static str)>,
     /// In the order in which they are audited.
     boards: Vec<Passed<'a>>,
+}
+
+/// What an answer says of a board: the refusal, or 0, and the items, where it tells them.
+#[derive(Clone, Copy, PartialEq, Eq, Debug)]
+pub struct Said {
+    pub number: u32,
+    pub items: Option<u32>,
 }
 
 /// A board that was passed to an entry.
@@ -92,6 +101,14 @@ impl Call<'_> {
         Ok(())
     }
 
+    /// Holds the answer to what is known of the first board.
+    pub fn hold_said(&self, number: u32, items: u32) -> Result<(), String> {
+        match self.said {
+            Some(said) if said.number == number && said.items.is_none_or(|told| told == items) => Ok(()),
+            said => Err(format!("{}: the answer says {said:?}, not {number} with {items} items", self.entry)),
+        }
+    }
+
     /// Which properties the tables of the first board break; none where it is refused.
     pub fn broken(&self) -> [bool; PROPERTIES.len()] {
         let board = &self.boards[0];
@@ -131,10 +148,14 @@ pub fn call_audit<'a>(
             board.words.as_ptr(), board.words.len(), board.verdicts.as_ptr(), board.verdicts.len(),
             roll.pointer(), board.roll.len(), index.pointer(), il, ballots.pointer(), bl, answer.pointer(), al)
     };
-    let boards = vec![Passed { board, accepted: enough && answer.given()[audit_answer::NUMBER] == 0, index: 1 }];
+    let said = enough.then(|| Said {
+        number: answer.given()[audit_answer::NUMBER],
+        items: Some(answer.given()[audit_answer::ITEMS]),
+    });
+    let boards = vec![Passed { board, accepted: said.is_some_and(|said| said.number == 0), index: 1 }];
     let buffers = vec![(answer, "answer"), (index, "index table"), (ballots, "ballot table")];
     let rolls = vec![(roll, "roll")];
-    Call { entry: "audit".to_string(), given, expected: enough, buffers, rolls, boards }
+    Call { entry: "audit".to_string(), said, given, expected: enough, buffers, rolls, boards }
 }
 
 /// Calls the comparison, and the reference beside it. The lengths are of the kept board's two tables,
@@ -181,6 +202,7 @@ pub fn call_compare<'a>(
             li.pointer(), lengths[2], lb.pointer(), lengths[3], answer.pointer(), lengths[4])
     };
     let accepted = if enough { accepted_in_comparison(answer.given()) } else { [false, false] };
+    let said = enough.then(|| said_in_comparison(answer.given()));
     let boards = vec![
         Passed { board: kept, accepted: accepted[0], index: 1 },
         Passed { board: later, accepted: accepted[1], index: 3 },
@@ -193,7 +215,7 @@ pub fn call_compare<'a>(
         (lb, "later ballot table"),
     ];
     let rolls = vec![(kept_roll, "kept roll"), (later_roll, "later roll")];
-    Some(Call { entry: format!("compare at main {number}"), given, expected: enough, buffers, rolls, boards })
+    Some(Call { entry: format!("compare at main {number}"), said, given, expected: enough, buffers, rolls, boards })
 }
 
 /// Whether the kept board and the later one were accepted, by a comparison's answer.
@@ -205,6 +227,14 @@ fn accepted_in_comparison(answer: &[u32]) -> [bool; 2] {
         // 19 is given of a board that was accepted.
         (compare_kind::REFUSED, _) if number != 19 => [true, false],
         _ => [true, true],
+    }
+}
+
+/// What a comparison's answer says of the kept board. Where it is accepted, it does not tell the items.
+fn said_in_comparison(answer: &[u32]) -> Said {
+    match accepted_in_comparison(answer) {
+        [true, _] => Said { number: 0, items: None },
+        _ => Said { number: answer[compare_answer::NUMBER], items: Some(answer[compare_answer::ITEMS]) },
     }
 }
 
@@ -250,11 +280,15 @@ pub fn call_ancestry<'a>(
             index.pointer(), il, ballots.pointer(), bl, list.pointer(), ll, answer.pointer(), al)
     };
     // 19 is given of a board that was accepted.
-    let accepted = enough && matches!(answer.given()[ancestry_answer::NUMBER], 0 | 19);
+    let said = enough.then(|| match answer.given()[ancestry_answer::NUMBER] {
+        0 | 19 => Said { number: 0, items: None },
+        number => Said { number, items: Some(answer.given()[ancestry_answer::COUNT]) },
+    });
+    let accepted = said.is_some_and(|said| said.number == 0);
     let boards = vec![Passed { board, accepted, index: 2 }];
     let buffers = vec![(answer, "answer"), (list, "list"), (index, "index table"), (ballots, "ballot table")];
     let rolls = vec![(roll, "roll")];
-    Some(Call { entry: format!("ancestry of item {number}"), given, expected: enough, buffers, rolls, boards })
+    Some(Call { entry: format!("ancestry of item {number}"), said, given, expected: enough, buffers, rolls, boards })
 }
 
 // ---- the numbers that are asked for ----

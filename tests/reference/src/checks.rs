@@ -716,9 +716,16 @@ pub fn broken_by_audit(with: &Interface, case: &Case) -> [bool; PROPERTIES.len()
     call_audit(with, case, lengths, &mut Random::new(0), &mut Tally::default()).broken()
 }
 
-/// Holds the tables that every entry leaves for a board to these, index table first. In the comparison
-/// the board is both the kept one and the later one.
-pub fn check_tables(with: &Interface, board: Board, tables: &[Vec<u32>; 2]) -> Result<(), String> {
+/// What is known of a stored board: the refusal, or 0, the items, and what an audit leaves in both tables.
+pub struct Answer {
+    pub number: u32,
+    pub items: u32,
+    pub tables: Option<[Vec<u32>; 2]>,
+}
+
+/// Holds what every entry says of a board, and leaves in its tables, to what is known. In the comparison the
+/// board is both the kept one and the later one.
+pub fn check_answer(with: &Interface, board: Board, known: &Answer) -> Result<(), String> {
     let [words, verdicts, roll] = [board.words, board.verdicts, board.roll].map(<[u32]>::to_vec);
     let other = Laid {
         words: words.clone(),
@@ -728,14 +735,18 @@ pub fn check_tables(with: &Interface, board: Board, tables: &[Vec<u32>; 2]) -> R
         addresses: Vec::new(),
     };
     let case = &Case { name: String::new(), words, verdicts, roll, known: Known::Nothing, other, kept: true };
-    let [i, b] = [tables[0].len(), tables[1].len()];
+    let [i, b] = known.tables.as_ref().map_or(NEED, |tables| [tables[0].len(), tables[1].len()]);
     let (random, tally) = (&mut Random::new(0), &mut Tally::default());
     let calls = [
         Some(call_audit(with, case, [i, b, AUDIT_ANSWER], random, tally)),
         call_compare(with, case, [i, b, i, b, COMPARE_ANSWER], random, tally),
         call_ancestry(with, case, [i, b, LIST_NEED, ANCESTRY_ANSWER], random, tally),
     ];
-    calls.iter().flatten().try_for_each(|call| call.hold_tables(tables))
+    for call in calls.iter().flatten() {
+        call.hold_said(known.number, known.items)?;
+        known.tables.as_ref().map_or(Ok(()), |tables| call.hold_tables(tables))?;
+    }
+    Ok(())
 }
 
 fn check_ancestry(with: &Interface, case: &Case, random: &mut Random, tally: &mut Tally) -> Result<(), String> {

@@ -100,7 +100,7 @@ fn main() {
     let bared = refused_mains();
     mistakes_are_found();
     if tables > 0 {
-        stored_tables_find(&options);
+        stored_boards_find(&options);
     }
     bared_boards_find(&bared);
     let with = if options.stand_in { Some(stand_in()) } else { library() };
@@ -155,6 +155,7 @@ fn stored_boards(options: &Options) -> usize {
             Ok(stored) => {
                 let (boards, with_tables) = (stored.boards, stored.tables);
                 println!("stored     {boards} boards print what is expected ({})", folder.display());
+                println!("           {} of them are answered so by each entry", stored.audited);
                 if with_tables > 0 {
                     println!("           {with_tables} of them leave the tables that are expected, in each entry");
                 }
@@ -297,21 +298,26 @@ fn found_alone(mistake: Mistake) -> bool {
     matches!(mistake.about(), About::Closed | About::Accepted | About::Unenrolled)
 }
 
-/// The stored tables, too, are to find mistakes about who closed a ballot, about openings and about sessions.
-fn stored_tables_find(options: &Options) {
-    let wanted = |about: About| matches!(about, About::Closed | About::Accepted | About::Refused | About::Unenrolled);
-    find("the stored tables", wanted, || options.boards.iter().all(|folder| check_folder(folder, None).is_ok()));
+/// The stored boards, too, are to find mistakes about who closed a ballot, about openings and about the roll. In
+/// their comparisons a board stands on both sides, and their tables are long enough.
+fn stored_boards_find(options: &Options) {
+    let wanted = |mistake: Mistake| match mistake.about() {
+        About::Closed | About::Accepted | About::Refused | About::Unenrolled | About::Order => true,
+        About::BadRoll => mistake != Mistake::RollBeforeLengths,
+        _ => false,
+    };
+    find("the stored boards", wanted, || options.boards.iter().all(|folder| check_folder(folder, None).is_ok()));
 }
 
 /// Boards with and without hidden items, too, are to find mistakes about these.
 fn bared_boards_find(boards: &[Bared]) {
     let passes = || boards.iter().all(|bared| check_bared(&stand_in(), bared).is_ok());
-    find("boards without hidden items", |about| about == About::Hidden, passes);
+    find("boards without hidden items", |mistake| mistake.about() == About::Hidden, passes);
 }
 
 /// Sees that a check does not pass the stand-in with any of the mistakes that are wanted.
-fn find(by: &str, wanted: fn(About) -> bool, passes: impl Fn() -> bool) {
-    let mistakes: Vec<Mistake> = MISTAKES.iter().copied().filter(|mistake| wanted(mistake.about())).collect();
+fn find(by: &str, wanted: fn(Mistake) -> bool, passes: impl Fn() -> bool) {
+    let mistakes: Vec<Mistake> = MISTAKES.iter().copied().filter(|&mistake| wanted(mistake)).collect();
     for &mistake in &mistakes {
         make_mistake(Some(mistake));
         if passes() {
