@@ -105,7 +105,10 @@ impl Call<'_> {
     pub fn hold_said(&self, number: u32, items: u32) -> Result<(), String> {
         match self.said {
             Some(said) if said.number == number && said.items.is_none_or(|told| told == items) => Ok(()),
-            said => Err(format!("{}: the answer says {said:?}, not {number} with {items} items", self.entry)),
+            Some(Said { number: n, items: i }) => {
+                Err(format!("{}: the answer has number {n} and items {i:?}, not {number} and {items}", self.entry))
+            }
+            None => Err(format!("{}: there is no answer", self.entry)),
         }
     }
 

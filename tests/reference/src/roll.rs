@@ -93,12 +93,14 @@ pub fn add_others(pairs: &mut Pairs, count: usize, random: &mut Random) {
     }
 }
 
-/// A full roll over which these voters are spread: others stand behind each of them, as far as there is room.
+/// A full roll over which these voters are spread: others stand before and behind each of them, as far as there
+/// is room.
 pub fn full_around(voters: &Pairs, random: &mut Random) -> Vec<u32> {
     let mut pairs = voters.clone();
     let mut step = 1;
     while pairs.len() < MAX_VOTERS && !voters.is_empty() && step < MAX_VOTERS as u32 {
         for voter in voters.keys() {
+            add_other(&mut pairs, voter.saturating_sub(step), random);
             add_other(&mut pairs, voter.saturating_add(step), random);
         }
         step += 1;
