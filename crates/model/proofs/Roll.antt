@@ -165,7 +165,7 @@ more-than u (a ∷ b ∷ roll) (suc k) t l =
 abbrev Rises : List ℕ → Type 0
 Rises roll = (j k : ℕ) → j < k → 2 * k + 1 < length roll → voterAt roll j < voterAt roll k
 
-rising-words : (roll : List ℕ) → T (rising (Numbers (electors roll))) → Rises roll
+pub rising-words : (roll : List ℕ) → T (rising (Numbers (electors roll))) → Rises roll
 unfolding electors
 rising-words [] t j k m l = absurd (omega arith)
 rising-words (a ∷ []) t j k m l = absurd (omega arith)
@@ -174,7 +174,7 @@ rising-words (a ∷ b ∷ roll) t zero (suc k) m l = omega (arith, more-than a r
 rising-words (a ∷ b ∷ roll) t (suc j) (suc k) m l =
     omega (arith, rising-words roll (rising-rest a (Numbers (electors roll)) t) j k (omega arith) (omega arith), voter-next a b roll j, voter-next a b roll k)
 
-words-rising : (roll : List ℕ) → Rises roll → T (rising (Numbers (electors roll)))
+pub words-rising : (roll : List ℕ) → Rises roll → T (rising (Numbers (electors roll)))
 unfolding rising electors
 words-rising [] all = tt
 words-rising (a ∷ []) all = tt

@@ -1,5 +1,4 @@
--- The roll by its pairs, numbers that rise, what the search leaves, and check 21 by its tests.
-pub mod Pairs
+-- Numbers that rise, what the search leaves of the roll, and check 21 by its tests.
 pub mod Rise
 pub mod Search
 pub mod Rules

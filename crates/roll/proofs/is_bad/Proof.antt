@@ -2,7 +2,7 @@
 use borrow.Author.Tests.{eq-eqb, ne-eqb, lt-ltb, le-ltb}
 use borrow.Author.Needs.{needs}
 use Rattle.model.specs.Roll.{isBadRoll}
-use Rattle.roll.proofs.Pairs.{pairs-length}
+use Rattle.model.proofs.Roll.{length-electors}
 use Rattle.roll.proofs.is_bad.Statement.{statement}
 use Rattle.roll.proofs.is_bad.Tie as tie
 
@@ -14,7 +14,7 @@ returns-2 : tie.Need-returns-2
 unfolding isBadRoll
 returns-2 c =
     let roll = c .before .before .before .args .roll .now in
-    rw (pairs-length roll, eq-eqb _ _ (c .before .if1 .left), lt-ltb _ _ (c .if2 .taken))
+    rw (length-electors roll, eq-eqb _ _ (c .before .if1 .left), lt-ltb _ _ (c .if2 .taken))
 
 is-rising-requires : tie.Need-is-rising-requires
 is-rising-requires c κs = search needs
@@ -23,7 +23,7 @@ returns-3 : tie.Need-returns-3
 unfolding isBadRoll
 returns-3 c =
     let roll = c .before .before .before .before .args .roll .now in
-    rw (c .is-rising .ensures, pairs-length roll, eq-eqb _ _ (c .before .before .if1 .left), le-ltb _ _ (c .before .if2 .left))
+    rw (c .is-rising .ensures, length-electors roll, eq-eqb _ _ (c .before .before .if1 .left), le-ltb _ _ (c .before .if2 .left))
 
 pub is-bad-spec : {M : Type 1} → statement M
 is-bad-spec = tie.close (tie.spec returns returns-2 is-rising-requires returns-3)

@@ -4,7 +4,7 @@ use Prim.Native.Nat.{_-_, _/_}
 use lib.ListN.{length}
 use native.Mathlib.Omega.{arith}
 use borrow.Author.Needs.{needs}
-use Rattle.roll.proofs.Rise.{Risen, risen-none, risen-one, risen-all, risen-more, risen-not}
+use Rattle.roll.proofs.Rise.{Risen, risen-one, risen-all, risen-more, risen-not}
 use Rattle.roll.proofs.is_rising.Statement.{statement}
 use Rattle.roll.proofs.is_rising.Tie as tie
 
@@ -15,13 +15,13 @@ abbrev μ-loop : tie.MeasureT-loop
 μ-loop roll pairs last₀ k₀ last k = pairs - k
 
 returns : tie.Need-returns Inv-loop μ-loop
-returns c = risen-none (c .before .args .roll .now) (c .if1 .taken)
+returns c = risen-all (risen-one (c .before .args .roll .now)) (omega (arith, c .if1 .taken))
 
 shared-slice-read-last : tie.Need-shared-slice-read-last Inv-loop μ-loop
 shared-slice-read-last c = search needs
 
 loop-holds : tie.Need-loop-holds Inv-loop μ-loop
-loop-holds c = (search needs, risen-one (c .before .before .args .roll .now) (omega (arith, c .before .if1 .left)))
+loop-holds c = (search needs, risen-one (c .before .before .args .roll .now))
 
 mul-next : tie.Need-mul-next Inv-loop μ-loop
 mul-next c = search needs
@@ -46,7 +46,7 @@ loop-less c = search needs
 loop-again : tie.Need-loop-again Inv-loop μ-loop
 loop-again c =
     let l = c .before .before .before in
-    (search needs, risen-more (l .loop .inv .1) (c .before .before .loop-test .taken) (c .if2 .left))
+    (search needs, risen-more (l .loop .inv .1) (c .if2 .left))
 
 returns-3 : tie.Need-returns-3 Inv-loop μ-loop
 returns-3 c =
