@@ -3,3 +3,4 @@ pub mod Samples
 pub mod SampleBoard
 pub mod SampleElection
 pub mod SampleTrack
+pub mod SampleRoll

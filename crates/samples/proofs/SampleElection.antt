@@ -18,6 +18,7 @@ use Rattle.model.specs.Links.{addressOk, previousOk, parentOk, timeOk}
 use Rattle.model.specs.Phase.{rounds, isOpen, extractionOk, openOk, standingOk, latestOk, intentOk, spoiledOk, phaseOk}
 use Rattle.model.specs.Only.{onBoardOk, underParentOk, underBallotOk, onlyOk}
 use Rattle.model.specs.Content.{contestsOk, mayVote, cryptogramsOk, contestOk, thresholdOk, authorizerOk, roundOk, sessionOk, commitmentOk, ballotOk, fingerprintOk, trusteesOk, contentOk}
+use Rattle.model.specs.Roll.{electors, rising, isBadRoll, onRoll, onRollOk}
 use Rattle.model.specs.Keys.{opening, keyOf, goodVerdict, verdictOk, keyOk, signatureOk}
 use Rattle.model.specs.Audit.{Outcome, unread, refused, accepted, firstUnmet, checks, faultIn, closing, judged, wordAt, items, audit, indexNeed, ballotNeed}
 use Rattle.model.specs.Report.{reportOf, numberWord, indexRowOf, indexRows, ballotRows}
@@ -44,7 +45,7 @@ item head content parent previous time = record {
 }
 
 -- eight times a number
-abbrev key : ℕ → List ℕ
+abbrev pub key : ℕ → List ℕ
 key = replicate keySize
 
 -- an item that is signed under a key
@@ -99,29 +100,33 @@ board = wordsIn election ++ (closingWord 21 ∷ [])
 abbrev pub verdicts : List ℕ
 verdicts = verdictsIn election
 
+-- the voter of the session, and two who do not vote
+abbrev pub roll : List ℕ
+roll = 3 ∷ 2 ∷ 9 ∷ 5 ∷ 20 ∷ 0 ∷ []
+
 -- how many items an accepted board has
 unfoldable pub items-in : Outcome → ℕ
 items-in (unread n) = 0
 items-in (refused n k) = 0
 items-in (accepted h) = length h
 
-all-accepted : items-in (audit toy board verdicts indexNeed ballotNeed) ≡ 21
-unfolding election wordsIn verdictsIn wordsOf hashed if_then_else_ _⇒_ part any count keep latest onesIn kindOf codeOf countOf sameWords pair lowZero member everyBelow allIn itemLength itemAt rowOf rowIn table fits entry firstFrom lastFrom mainItem endAfter endAddress parentNumber sessionNumber entryOf placeOf history voteOf counted contents addressOk previousOk parentOk timeOk rounds isOpen extractionOk openOk standingOk latestOk intentOk spoiledOk phaseOk onBoardOk underParentOk underBallotOk onlyOk contestsOk mayVote cryptogramsOk contestOk thresholdOk authorizerOk roundOk sessionOk commitmentOk ballotOk fingerprintOk trusteesOk contentOk opening keyOf verdictOk keyOk signatureOk firstUnmet checks faultIn closing judged wordAt items audit items-in
+all-accepted : items-in (audit toy board verdicts roll indexNeed ballotNeed) ≡ 21
+unfolding election wordsIn verdictsIn wordsOf hashed if_then_else_ _⇒_ part any count keep latest onesIn kindOf codeOf countOf sameWords pair lowZero member everyBelow allIn itemLength itemAt rowOf rowIn table fits entry firstFrom lastFrom mainItem endAfter endAddress parentNumber sessionNumber entryOf placeOf history voteOf counted contents addressOk previousOk parentOk timeOk rounds isOpen extractionOk openOk standingOk latestOk intentOk spoiledOk phaseOk onBoardOk underParentOk underBallotOk onlyOk contestsOk mayVote cryptogramsOk contestOk thresholdOk authorizerOk roundOk sessionOk commitmentOk ballotOk fingerprintOk trusteesOk contentOk electors rising isBadRoll onRoll onRollOk opening keyOf verdictOk keyOk signatureOk firstUnmet checks faultIn closing judged wordAt items audit items-in
 all-accepted = refl
 
 -- so it is accepted, with its first items
-accepted-by : (f : Format) (ws vs : List ℕ) (index ballots n : ℕ) (o : Outcome) → audit f ws vs index ballots ≡ o → items-in o ≡ n → 1 ≤ n
+accepted-by : (f : Format) (ws vs roll : List ℕ) (index ballots n : ℕ) (o : Outcome) → audit f ws vs roll index ballots ≡ o → items-in o ≡ n → 1 ≤ n
     → o ≡ accepted (history f ws n)
 unfolding items-in
-accepted-by f ws vs index ballots n (unread m) q e l = absurd (omega arith)
-accepted-by f ws vs index ballots n (refused m k) q e l = absurd (omega arith)
-accepted-by f ws vs index ballots n (accepted h) q e l = ap accepted (accepted-history f ws vs index ballots h q ∙ ap (history f ws) e)
+accepted-by f ws vs roll index ballots n (unread m) q e l = absurd (omega arith)
+accepted-by f ws vs roll index ballots n (refused m k) q e l = absurd (omega arith)
+accepted-by f ws vs roll index ballots n (accepted h) q e l = ap accepted (accepted-history f ws vs roll index ballots h q ∙ ap (history f ws) e)
 
-pub is-accepted : audit toy board verdicts indexNeed ballotNeed ≡ accepted (history toy board 21)
-is-accepted = accepted-by toy board verdicts indexNeed ballotNeed 21 _ refl all-accepted (lit≤ tt)
+pub is-accepted : audit toy board verdicts roll indexNeed ballotNeed ≡ accepted (history toy board 21)
+is-accepted = accepted-by toy board verdicts roll indexNeed ballotNeed 21 _ refl all-accepted (lit≤ tt)
 
-pub is-sound : Sound toy board verdicts (history toy board 21)
-is-sound = accepted↔sound toy board verdicts indexNeed ballotNeed (history toy board 21) .0 is-accepted .0
+pub is-sound : Sound toy board verdicts roll (history toy board 21)
+is-sound = accepted↔sound toy board verdicts roll indexNeed ballotNeed (history toy board 21) .0 is-accepted .0
 
 -- ---- what its history gives, computed once
 
@@ -141,7 +146,7 @@ end = refl
 abbrev vote : Vote
 vote = record { ballot = 13; voter = 9; weight = 5; content = 1 ∷ replicate 16 6 ++ (0x80000 ∷ []) }
 
-votes : counted past ≡ vote ∷ []
+pub votes : counted past ≡ vote ∷ []
 unfolding election wordsIn wordsOf hashed if_then_else_ part any count keep latest kindOf codeOf countOf sameWords itemLength itemAt entry firstFrom parentNumber sessionNumber entryOf placeOf history voteOf counted
 votes = refl
 
