@@ -38,12 +38,7 @@ Numbers = map (λ e. e .voter)
 names-parts : (v w : ℕ) (e : Elector) → T (names v w e) → (e .voter ≡ v) × (e .weight ≡ w)
 names-parts v w e t = let (a, b) = and-iff (eqb (e .voter) v) (eqb (e .weight) w) .0 t in (eqb→eq (e .voter) v a, eqb→eq (e .weight) w b)
 
--- numbers that rise go on rising behind the first, and are all more than it
-rising-rest : (n : ℕ) (ns : List ℕ) → T (rising (n ∷ ns)) → T (rising ns)
-unfolding rising
-rising-rest n [] t = tt
-rising-rest n (m ∷ ns) t = and-iff (ltb n m) (rising (m ∷ ns)) .0 t .1
-
+-- numbers that rise are all more than the first
 not-below : (u v w : ℕ) (es : List Elector) → T (rising (u ∷ Numbers es)) → v ≤ u → T (any (names v w) es) → ⊥
 unfolding rising any
 not-below u v w [] t l n = n
@@ -53,6 +48,12 @@ not-below u v w (e ∷ es) t l n =
     by-test (names v w e)
     (λ q. let same = names-parts v w e (passes q) .0 in omega arith)
     (λ q. not-below (e .voter) v w es b (omega arith) (rw q at n))
+
+-- and rise behind it
+rising-rest : (n : ℕ) (ns : List ℕ) → T (rising (n ∷ ns)) → T (rising ns)
+unfolding rising
+rising-rest n [] t = tt
+rising-rest n (m ∷ ns) t = and-iff (ltb n m) (rising (m ∷ ns)) .0 t .1
 
 -- a voter has one weight
 pub one-right : (v w x : ℕ) (es : List Elector) → T (rising (Numbers es)) → T (any (names v w) es) → T (any (names v x) es) → w ≡ x
@@ -131,26 +132,29 @@ voter-next a b roll p = let place : 2 * suc p ≡ suc (suc (2 * p)) = omega arit
 weight-next : (a b : ℕ) (roll : List ℕ) (p : ℕ) → weightAt (a ∷ b ∷ roll) (suc p) ≡ weightAt roll p
 weight-next a b roll p = let place : 2 * suc p + 1 ≡ suc (suc (2 * p + 1)) = omega arith in ap (λ (n : ℕ). getD (a ∷ b ∷ roll) n 0) place
 
--- who is on the roll
-first-pair : (a b : ℕ) (roll : List ℕ) (v w p : ℕ) → (T (onRoll roll v w) ↔ ((p : ℕ) × PairAt roll v w p)) → PairAt (a ∷ b ∷ roll) v w p → T (onRoll (a ∷ b ∷ roll) v w)
+-- who is on the roll has a pair there
+pair-named : (roll : List ℕ) (v w : ℕ) → T (onRoll roll v w) → (p : ℕ) × PairAt roll v w p
 unfolding onRoll electors any
-first-pair a b roll v w zero rest (l, x, y) =
+pair-named [] v w t = absurd t
+pair-named (a ∷ []) v w t = absurd t
+pair-named (a ∷ b ∷ roll) v w t =
+    by-test (names v w (record { voter = a; weight = b }))
+    (λ q. let (x, y) = names-parts v w (record { voter = a; weight = b }) (passes q) in (0, (omega arith, x, y)))
+    (λ q. let (p, (l, x, y)) = pair-named roll v w (rw q at t) in (suc p, (omega arith, voter-next a b roll p ∙ x, weight-next a b roll p ∙ y)))
+
+-- and only they do
+named-pair : (roll : List ℕ) (v w p : ℕ) → PairAt roll v w p → T (onRoll roll v w)
+unfolding onRoll electors any
+named-pair [] v w p (l, x, y) = absurd (omega arith)
+named-pair (a ∷ []) v w p (l, x, y) = absurd (omega arith)
+named-pair (a ∷ b ∷ roll) v w zero (l, x, y) =
     or-left (names v w (record { voter = a; weight = b })) _ (and-iff (eqb a v) (eqb b w) .1 (rw x (eqb-refl v), rw y (eqb-refl w)))
-first-pair a b roll v w (suc p) rest (l, x, y) =
+named-pair (a ∷ b ∷ roll) v w (suc p) (l, x, y) =
     or-right (names v w (record { voter = a; weight = b })) _
-    (rest .1 (p, (omega arith, sym (voter-next a b roll p) ∙ x, sym (weight-next a b roll p) ∙ y)))
+    (named-pair roll v w p (omega arith, sym (voter-next a b roll p) ∙ x, sym (weight-next a b roll p) ∙ y))
 
 pub on-roll : (roll : List ℕ) (v w : ℕ) → T (onRoll roll v w) ↔ ((p : ℕ) × PairAt roll v w p)
-unfolding onRoll electors any
-on-roll [] v w = (λ t. absurd t, λ (p, (l, x, y)). absurd (omega arith))
-on-roll (a ∷ []) v w = (λ t. absurd t, λ (p, (l, x, y)). absurd (omega arith))
-on-roll (a ∷ b ∷ roll) v w =
-    let rest = on-roll roll v w in (
-      λ t. by-test (names v w (record { voter = a; weight = b }))
-          (λ q. let (x, y) = names-parts v w (record { voter = a; weight = b }) (passes q) in (0, (omega arith, x, y)))
-          (λ q. let (p, (l, x, y)) = rest .0 (rw q at t) in (suc p, (omega arith, voter-next a b roll p ∙ x, weight-next a b roll p ∙ y))),
-      λ (p, here). first-pair a b roll v w p rest here,
-    )
+on-roll roll v w = (pair-named roll v w, λ (p, here). named-pair roll v w p here)
 
 -- voter numbers that rise: each is less than every later one
 more-than : (u : ℕ) (roll : List ℕ) (k : ℕ) → T (rising (u ∷ Numbers (electors roll))) → 2 * k + 1 < length roll → u < voterAt roll k
