@@ -1,5 +1,5 @@
 /* Audits the board in a folder: examples/build, then target/examples/audit FOLDER
-   FOLDER has board.words and verdicts.words: each word four bytes, high byte first. The exit status is 0 for a board that is accepted, 1 for
+   FOLDER has board.words, verdicts.words and roll.words: each word four bytes, high byte first. The exit status is 0 for a board that is accepted, 1 for
    one that is refused, 2 where a file can't be read. */
 #include "../include/tirfolma.h"
 
@@ -57,6 +57,13 @@ static void print_closer(const uint32_t *board, const uint32_t *index, uint32_t 
         printf("ballot %" PRIu32 ": %s by item %" PRIu32 "\n", k, type_of(board, index, closer) == CAST ? "cast" : "spoiled", closer);
 }
 
+/* Of a roll that is not bad: how many voters it has, and their weight. The counted ballots weigh no more. */
+static void print_roll(const uint32_t *roll, size_t words) {
+    uint64_t weight = 0;
+    for (size_t i = 0; i < words; i += TIRFOLMA_ROLL_ROW_WORDS) weight += roll[i + TIRFOLMA_ROLL_WEIGHT];
+    printf("roll: %zu voters of weight %" PRIu64 "\n", words / TIRFOLMA_ROLL_ROW_WORDS, weight);
+}
+
 int main(int argc, char **argv) {
     if (argc != 2) {
         fprintf(stderr, "usage: audit FOLDER\n");
@@ -64,23 +71,26 @@ int main(int argc, char **argv) {
     }
     static uint32_t index[TIRFOLMA_INDEX_WORDS], ballots[TIRFOLMA_BALLOT_WORDS];
     uint32_t answer[TIRFOLMA_AUDIT_WORDS];
-    size_t board_words, verdict_words;
+    size_t board_words, verdict_words, roll_words;
     uint32_t *board = read_words(argv[1], "board.words", &board_words);
     uint32_t *verdicts = read_words(argv[1], "verdicts.words", &verdict_words);
-    if (!tirfolma_audit(board, board_words, verdicts, verdict_words, index, TIRFOLMA_INDEX_WORDS, ballots,
-                        TIRFOLMA_BALLOT_WORDS, answer, TIRFOLMA_AUDIT_WORDS))
+    uint32_t *roll = read_words(argv[1], "roll.words", &roll_words);
+    if (!tirfolma_audit(board, board_words, verdicts, verdict_words, roll, roll_words, index, TIRFOLMA_INDEX_WORDS,
+                        ballots, TIRFOLMA_BALLOT_WORDS, answer, TIRFOLMA_AUDIT_WORDS))
         abort(); /* the answer has its 14 words */
     free(verdicts);
 
     uint32_t number = answer[TIRFOLMA_NUMBER];
     if (number != 0) {
         printf("refused %" PRIu32 " after %" PRIu32 " items\n", number, answer[TIRFOLMA_ITEMS]);
+        free(roll);
         free(board);
         return 1;
     }
     uint64_t weight = (uint64_t)answer[TIRFOLMA_WEIGHT_HIGH] << 32 | answer[TIRFOLMA_WEIGHT_LOW];
     printf("accepted: %" PRIu32 " items, %" PRIu32 " of them main, %" PRIu32 " counted ballots of weight %" PRIu64 "\n",
            answer[TIRFOLMA_ITEMS], answer[TIRFOLMA_MAINS], answer[TIRFOLMA_BALLOTS], weight);
+    print_roll(roll, roll_words);
     printf("end address");
     for (int i = 0; i < 8; i++) printf(" %08" PRIx32, answer[TIRFOLMA_END + i]);
     printf("\n");
@@ -90,6 +100,7 @@ int main(int argc, char **argv) {
                row[TIRFOLMA_COUNTED_VOTER], row[TIRFOLMA_COUNTED_WEIGHT]);
     }
     for (uint32_t k = 1; k <= answer[TIRFOLMA_ITEMS]; k++) print_closer(board, index, k);
+    free(roll);
     free(board);
     return 0;
 }
