@@ -31,7 +31,7 @@ extern "C" {
 #define TIRFOLMA_BALLOT_ROW_WORDS 3
 #define TIRFOLMA_BALLOT_WORDS (TIRFOLMA_BALLOT_ROW_WORDS * 408)
 
-/* Words of a roll: a pair for each voter, with rising voter numbers, and no roll has more than 2048 of them. */
+/* The most words that a roll may have: a pair for each voter, voter numbers rising strictly, at most 2048 pairs. */
 #define TIRFOLMA_ROLL_ROW_WORDS 2
 #define TIRFOLMA_ROLL_WORDS (TIRFOLMA_ROLL_ROW_WORDS * 2048)
 
@@ -73,7 +73,8 @@ enum {
 };
 
 /* Audits a board with its verdict words and the roll of its voters. An odd number of roll words, more than 4096 of them, or voter numbers
-   that do not rise are refused by 20; a session whose voter is not on the roll with the session's weight by 21. An empty roll has no voters.
+   that do not rise strictly are refused by 20; a session whose voter is not on the roll with the session's weight by 21. A roll of no words
+   is good, and has no voters.
 
    True: the first 14 words of the answer are as above, of a refusal too (words 2 to 13 are then 0), and the words behind them are as they
    were. The tables:
@@ -115,8 +116,8 @@ enum {
     TIRFOLMA_COLLISION = 3 /* two items with one address and different hashed words */
 };
 
-/* Audits a kept board, then a later one, each with its own roll and its own tables, and compares all main items of the kept board with those of the later one
-   up to a main number of the later one. A number that the later board does not have is refusal 19, of the later board.
+/* Audits a kept board, then a later one, each with its own roll and tables, and compares all main items of the kept board with those of the
+   later one up to a main number of the later one. A number that the later board does not have is refusal 19, of the later board.
 
    True: the first 6 words of the answer are as above, and the words behind them are as they were. Each board's tables are as tirfolma_audit
    leaves them; the later board's are as they were if the kept one is refused, and both are filled under 19.
@@ -148,8 +149,9 @@ enum {
     TIRFOLMA_ANCESTRY_COUNT = 1   /* how many numbers were written; of a refusal, the items that passed */
 };
 
-/* Audits a board, then lists the item number that is asked for, that of the item's parent, and so on; genesis, 1, is the last. A number that
-   the board does not have is refusal 19. A list of fewer than 2048 words is refused by 2, as a table that is too short.
+/* Audits a board with its verdict words and the roll of its voters, then lists the item number that is asked for, that of the item's
+   parent, and so on; genesis, 1, is the last. A number that the board does not have is refusal 19. A list of fewer than 2048 words is
+   refused by 2, as a table that is too short.
 
    True: the two words of the answer are as above, and the words behind them are as they were. The tables are as tirfolma_audit leaves them.
    The list has the numbers and then zeros; under refusal 2, and 1 for more than 262144 words, it is as it was, under any other all zero.

@@ -5,8 +5,8 @@ use answers::Size;
 use entries::comparing;
 use entries::listing;
 
-// Audits a board with its verdict words and the roll of its voters, writes the report into the first 14 words of the answer and the rows into the tables, and returns
-// true, of a refusal too. Where the answer is shorter, returns false and writes nothing.
+// Audits a board with its verdict words and the roll of its voters, writes the report into the first 14 words of the answer and the rows
+// into the tables, and returns true, of a refusal too. Where the answer is shorter, returns false and writes nothing.
 #[no_mangle]
 pub extern "C" fn tirfolma_audit(
     board: &[u32],
@@ -26,8 +26,8 @@ pub extern "C" fn tirfolma_audit(
     true
 }
 
-// Audits a kept board and a later one, each with its own roll and tables, compares them at a main number of the later one, writes what is found into
-// the first 6 words of the answer, and returns true. Where the answer is shorter, returns false and writes nothing.
+// Audits a kept board and a later one, each with its own roll and tables, compares them at a main number of the later one, writes what is
+// found into the first 6 words of the answer, and returns true. Where the answer is shorter, returns false and writes nothing.
 #[no_mangle]
 pub extern "C" fn tirfolma_compare(
     kept: &[u32],

@@ -2,10 +2,9 @@
 use Prim.Native.Nat.{ℕ, _≤_, _<_}
 use native.Mathlib.Omega.{arith}
 use mathlib.Core.Path.{_≡_, refl, sym, ap, _∙_}
-use mathlib.Core.Bool.{true, false, not}
+use mathlib.Core.Bool.{true, false}
 use mathlib.Core.List.{List, []}
 use lib.ListN.{length, replicate, length-replicate}
-use lib.Dec.{T}
 use borrow.Author.Tests.{lt-ltb, le-ltb}
 use Rattle.model.specs.Lists.{if_then_else_}
 use Rattle.model.specs.Refusal.{noFault, tooLarge, shortTable, emptyBoard, badRoll}
@@ -13,7 +12,6 @@ use Rattle.model.specs.Roll.{isBadRoll, onRoll}
 use Rattle.model.specs.Audit.{Outcome, unread, refused, accepted, audit, items, itemLimit, wordLimit, indexNeed, ballotNeed, isEmpty}
 use Rattle.model.specs.Report as model
 use Rattle.model.specs.Report.{reportOf, tableAfter, indexAfter, ballotsAfter}
-use Rattle.model.proofs.Tests.{is-false, not-iff}
 use Rattle.model.proofs.Acceptance.{refused-some}
 use Rattle.model.proofs.Unchecked.{accepted-history}
 use Rattle.refusal.specs.Number.{numberOf}
@@ -34,10 +32,6 @@ use Rattle.audit.specs.Tables.{Sized, Zeros, Holds}
 pub chain-none : (bucket : ℕ → ℕ) → replicate chainWords 0 ≡ chain bucket 0
 unfolding chain
 chain-none bucket = refl
-
--- a roll that the test passes
-pub good-roll : (roll : List ℕ) → isBadRoll roll ≡ false → T (not (isBadRoll roll))
-good-roll roll q = rw q tt
 
 -- ---- the number of an answer
 
@@ -99,15 +93,12 @@ module _ (board verdicts roll index ballots : List ℕ) where
     unfolding tableAfter
     audited-roll q r told ei eb = rw (audit-roll q) (told, (ei, eb))
 
-  module _ (sized : Sized board index ballots) (good : T (not (isBadRoll roll))) where
-    good-is : isBadRoll roll ≡ false
-    good-is = is-false (isBadRoll roll) (not-iff (isBadRoll roll) .0 good)
-
+  module _ (sized : Sized board index ballots) (good : isBadRoll roll ≡ false) where
     -- ---- 3
 
     audit-empty : isEmpty board ≡ true → outcome ≡ refused emptyBoard 0
     unfolding audit if_then_else_
-    audit-empty q = rw (le-ltb _ _ (sized .fewWords), le-ltb _ _ (sized .wide), le-ltb _ _ (sized .roomy), good-is, q)
+    audit-empty q = rw (le-ltb _ _ (sized .fewWords), le-ltb _ _ (sized .wide), le-ltb _ _ (sized .roomy), good, q)
 
     pub audited-empty : isEmpty board ≡ true → (r : Report) → reported r ≡ reportOf base (refused emptyBoard 0) → {i b : List ℕ}
         → i ≡ replicate (length index) 0 → b ≡ replicate (length ballots) 0 → Audited r i b
@@ -118,7 +109,7 @@ module _ (board verdicts roll index ballots : List ℕ) where
 
     audit-items : isEmpty board ≡ false → outcome ≡ answer
     unfolding audit if_then_else_
-    audit-items q = rw (le-ltb _ _ (sized .fewWords), le-ltb _ _ (sized .wide), le-ltb _ _ (sized .roomy), good-is, q)
+    audit-items q = rw (le-ltb _ _ (sized .fewWords), le-ltb _ _ (sized .wide), le-ltb _ _ (sized .roomy), good, q)
 
     cleared : (o : Outcome) (i b : List ℕ) → Holds board o i b → (r : Report) → reported r ≡ reportOf base o
         → {x : Refusal} {k : ℕ} → r .answer ≡ Refused x k

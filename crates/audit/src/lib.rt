@@ -10,8 +10,8 @@ use report::Report;
 
 pub mod run;
 
-// Audits a board with its verdict words and the roll of its voters. The index table and the ballot table are lent for writing: the word limit and 2 change neither,
-// every later refusal leaves both all zero, and acceptance leaves the rows and zeros.
+// Audits a board with its verdict words and the roll of its voters. The index table and the ballot table are lent for writing: the word
+// limit and 2 change neither, every later refusal leaves both all zero, and acceptance leaves the rows and zeros.
 pub fn audit(
     board: &[u32],
     verdicts: &[u32],
@@ -34,5 +34,5 @@ pub fn audit(
     if ballots.len() < Limit::BALLOTS {
         return Report::refused(Refusal::ShortTable, 0);
     }
-    run::start(board, verdicts, roll, index, ballots)
+    run::read(board, verdicts, roll, index, ballots)
 }

@@ -1,8 +1,6 @@
 // The items in their order, up to the first refusal or the closing word.
 ghost use mathlib.Core.Path.{_≡_};
-ghost use mathlib.Core.Bool.{not};
-ghost use lib.Dec.{T};
-ghost use Rattle.model.specs.Roll.{isBadRoll};
+ghost use Rattle.model.specs.Roll.{GoodRoll};
 ghost use Rattle.model.specs.Audit.{isEmpty};
 ghost use Rattle.model.specs.Report.{reportOf, indexAfter, ballotsAfter};
 ghost use Rattle.format.specs.Base.{base};
@@ -42,7 +40,7 @@ fn run(
 ) -> Report
     requires { ⌜ (Sized (now board) (now index) (now ballots)) × (Zeros (now index)) × (Zeros (now ballots)) ⌝ }
     requires { ⌜ (now parents ≡ parentChain (now board) 0) × (now sessions ≡ sessionChain (now board) 0) ⌝ }
-    requires { ⌜ T (not (isBadRoll (now roll))) ⌝ }
+    requires { ⌜ GoodRoll (now roll) ⌝ }
     ensures answer { λ r. ⌜ reported r ≡ reportOf base (itemsOutcome board verdicts roll) ⌝ }
     ensures tables { λ _. ⌜ Holds (now (board .entry)) (itemsOutcome board verdicts roll) (now (index .exit)) (now (ballots .exit)) ⌝ }
 {
@@ -70,21 +68,25 @@ fn run(
     }
 }
 
-// The audit of a board within the word limit, with a good roll and tables that are long enough.
-fn read(
+// The audit of a board within the word limit, with tables that are long enough.
+pub fn read(
     board: &[u32],
     verdicts: &[u32],
     roll: &[u32],
     index: &mut [u32],
     ballots: &mut [u32],
 ) -> Report
-    requires { ⌜ (Sized (now board) (now index) (now ballots)) × (T (not (isBadRoll (now roll)))) ⌝ }
+    requires { ⌜ Sized (now board) (now index) (now ballots) ⌝ }
     ensures answer { λ r. ⌜ reported r ≡ reportOf base (outcomeOf board verdicts roll index ballots) ⌝ }
     ensures index { λ _. ⌜ now (index .exit) ≡ indexAfter (outcomeOf board verdicts roll index ballots) (now (index .entry)) ⌝ }
     ensures ballots { λ _. ⌜ now (ballots .exit) ≡ ballotsAfter (outcomeOf board verdicts roll index ballots) (now (ballots .entry)) ⌝ }
 {
     words::clear(index);
     words::clear(ballots);
+    // 20 bad roll
+    if roll::is_bad_roll(roll) {
+        return Report::refused(Refusal::BadRoll, 0);
+    }
     // 3 blank
     if is_empty(board) {
         return Report::refused(Refusal::EmptyBoard, 0);
@@ -110,26 +112,4 @@ fn read(
         words::clear(ballots);
     }
     r
-}
-
-// The audit of a board within the word limit, with tables that are long enough.
-pub fn start(
-    board: &[u32],
-    verdicts: &[u32],
-    roll: &[u32],
-    index: &mut [u32],
-    ballots: &mut [u32],
-) -> Report
-    requires { ⌜ Sized (now board) (now index) (now ballots) ⌝ }
-    ensures answer { λ r. ⌜ reported r ≡ reportOf base (outcomeOf board verdicts roll index ballots) ⌝ }
-    ensures index { λ _. ⌜ now (index .exit) ≡ indexAfter (outcomeOf board verdicts roll index ballots) (now (index .entry)) ⌝ }
-    ensures ballots { λ _. ⌜ now (ballots .exit) ≡ ballotsAfter (outcomeOf board verdicts roll index ballots) (now (ballots .entry)) ⌝ }
-{
-    // 20 bad roll
-    if roll::is_bad(roll) {
-        words::clear(index);
-        words::clear(ballots);
-        return Report::refused(Refusal::BadRoll, 0);
-    }
-    read(board, verdicts, roll, index, ballots)
 }

@@ -111,13 +111,13 @@ fn run(n: usize) {
     let more = words_in(&beside, &mut verdicts);
     let mut roll = [0u32; ROOM];
     let third = [a, b, c, b'.', b'r', b'o', b'l', b'l'];
-    let pairs = words_in(&third, &mut roll);
+    let roll_words = words_in(&third, &mut roll);
     let mut index = [0u32; Limit::INDEX];
     let mut ballots = [0u32; Limit::BALLOTS];
     let r = audit::audit(
         &board[..words],
         &verdicts[..more],
-        &roll[..pairs],
+        &roll[..roll_words],
         &mut index,
         &mut ballots,
     );

@@ -63,9 +63,9 @@ fn compare_later(
     }
 }
 
-// Audits the kept board and then the later one, each with its own roll and tables, and compares all main items of the kept board with those of the
-// later one up to a main number. A refusal names its board and stops there: the later board's tables are unchanged if the kept one is
-// refused, and the kept board's stay filled whatever comes after it.
+// Audits the kept board and then the later one, each with its own roll and tables, and compares all main items of the kept board with those
+// of the later one up to a main number. A refusal names its board and stops there: the later board's tables are unchanged if the kept one
+// is refused, and the kept board's stay filled whatever comes after it.
 pub fn compare(
     kept: &[u32],
     kept_verdicts: &[u32],

@@ -1,4 +1,5 @@
-// The limits of the paper, "Refusals and their order": how much a board and a roll may have, and how much a table must have room for.
+// The limits of the paper, "Refusals and their order", and of requests (i), (vii) and (viii): how much a board and a roll may have, and how
+// much a table must have room for.
 ghost use mathlib.Core.Path.{_≡_};
 ghost use Rattle.format.specs.Limit.{limits};
 

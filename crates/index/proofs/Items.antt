@@ -60,7 +60,7 @@ module _ (board : List ℕ) (n : ℕ) where
 
 -- ---- the items that pass
 
--- what passes with one roll passes whoever is on it
+-- what passes with a roll passes with the roll left aside
 pub meets-anyone : {f : Format} {on : Eligibility} {h : History} {v : List ℕ} {i : Item} → Meets f on h v i → Meets f anyone h v i
 unfolding onRollOk _⇒_
 meets-anyone {i} m = record {

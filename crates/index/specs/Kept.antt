@@ -20,11 +20,11 @@ before board n = history base board n
 abbrev pub itemAfter : List ℕ → ℕ → item.Item
 itemAfter board n = item.itemAt base board (placeOf base board n)
 
--- who is on the roll does not matter to what is asked of the items that passed
+-- everyone may vote, with any weight: nothing that is asked of items that passed depends on the roll
 abbrev pub anyone : Eligibility
 anyone voter weight = true
 
--- the first n items of the board pass, under some verdicts and whoever is on the roll, and the index table holds their rows and zeros
+-- the first n items of the board pass, under some verdicts and with the roll left aside, and the index table holds their rows and zeros
 pub record Kept (board index : List ℕ) (n : ℕ) : Type 0 where
   pub rows : index ≡ filled (length index) (indexRows (before board n) 0 (before board n))
   pub verdicts : List ℕ

@@ -23,7 +23,7 @@ pub record IsKnown (board : List ℕ) (e : Entry) (r : Known) : Type 0 where
   pub item : e .item ≡ itemAt base board (e .place)
   pub within : r .item .end ≤ length board
 
--- the item after the first n meets the rules, under some verdict and whoever is on the roll, and c is what is known of it
+-- the item after the first n meets the rules, under some verdict and with the roll left aside, and c is what is known of it
 pub record Passing (board index : List ℕ) (n : ℕ) (c : Known) : Type 0 where
   pub kept : Kept board index n
   pub more : n < itemLimit

@@ -1,6 +1,6 @@
 -- From what the code found of the item at hand to the first refusal that the model gives it. Assumes nothing.
 use Prim.Native.Nat.{ℕ, _≤_, _<_}
-use mathlib.Core.Path.{_≡_, sym, ap, _∙_}
+use mathlib.Core.Path.{_≡_, refl, sym, ap, _∙_}
 use mathlib.Core.Bool.{Bool, true, false, not}
 use mathlib.Core.Option.{none}
 use mathlib.Core.List.{List}
@@ -16,6 +16,7 @@ use Rattle.model.specs.Roll.{onRoll}
 use Rattle.model.specs.Audit.{firstUnmet, faultIn, itemLimit}
 use Rattle.model.proofs.Tests.{passes}
 use Rattle.model.proofs.Unchecked.{length-history}
+use Rattle.model.proofs.FirstItems.{fault-meets}
 use Rattle.format.specs.Base.{base}
 use Rattle.format.specs.Layout.{headOf, itemOf}
 use Rattle.format.specs.Table.{rowOf, countsOf}
@@ -23,7 +24,7 @@ use Rattle.format.specs.declared.head.Head.{Head}
 use Rattle.format.specs.declared.item.Item.{Item}
 use Rattle.format.specs.declared.table.Row.{Row}
 use Rattle.format.specs.declared.table.Listing.{Listing}
-use Rattle.index.specs.Kept.{before, Kept}
+use Rattle.index.specs.Kept.{Kept}
 use Rattle.index.specs.Known.{Passing}
 use Rattle.index.specs.declared.Known.{Known}
 use Rattle.index.proofs.Items.{meets-anyone}
@@ -33,7 +34,7 @@ use Rattle.keys.specs.Verdicts.{verdictAt}
 use Rattle.judge.specs.Checks.{rowWith, checksOf}
 use Rattle.judge.specs.Judged.{faultAfter}
 use Rattle.judge.proofs.First.{met, unmet}
-use Rattle.judge.proofs.Item.{item-end, fault-meets}
+use Rattle.judge.proofs.Item.{item-end}
 
 -- ---- the head: 5, 6, 4
 
@@ -106,7 +107,7 @@ module _ {board index : List ℕ} {s : State} (kept : Kept board index (s .items
       → faultAfter board verdicts roll s ≡ noFault → Passing board index (s .items) c
   unfolding placeOf
   judged-passing verdicts roll c known clean =
-      let (inside, met) = fault-meets base (onRoll roll) board verdicts (before board (s .items)) (placeOf base board (s .items)) (rw (stands .place) at clean) in
+      let (inside, met) = fault-meets base (onRoll roll) board verdicts (s .items) _ refl (rw (stands .place) at clean) in
       record {
         kept = kept;
         more = more;

@@ -1,10 +1,8 @@
 // Checks 7 to 16 and 21 of an item whose head is listed and that lies within the board. Each comment gives the paper's number and word.
 ghost use mathlib.Core.Path.{_≡_};
 ghost use mathlib.Core.List.{List};
-ghost use mathlib.Core.Bool.{not};
 ghost use Prim.Native.Nat.{ℕ};
-ghost use lib.Dec.{T};
-ghost use Rattle.model.specs.Roll.{Eligibility, isBadRoll, onRoll};
+ghost use Rattle.model.specs.Roll.{Eligibility, GoodRoll, onRoll};
 ghost use Rattle.model.specs.Audit.{firstUnmet};
 ghost use Rattle.refusal.specs.Number.{foundOf};
 ghost use Rattle.lookup.specs.Buckets.{sessionChain};
@@ -56,7 +54,7 @@ fn rules_finding(
     requires { ⌜ (AtItem (now board) (now index) s c)
         × (Tallied (now board) (now ballots) (s .items))
         × (now sessions ≡ sessionChain (now board) (s .items)) ⌝ }
-    requires { ⌜ T (not (isBadRoll (now roll))) ⌝ }
+    requires { ⌜ GoodRoll (now roll) ⌝ }
     ensures { λ r. ⌜ ((v : List ℕ)
         → foundOf r ≡ firstUnmet (ruleChecks (checksOf (now (board .entry)) (onRoll (now (roll .entry))) v s row))) ⌝ }
 {
@@ -73,7 +71,7 @@ fn rules_finding(
         return Finding::Fails(Refusal::BadContent);
     }
     // 21 not on the roll
-    if !roll::on_roll_ok(board, index, roll, s, c) {
+    if !roll::on_roll_ok(board, roll, index, s, c) {
         return Finding::Fails(Refusal::NotOnRoll);
     }
     Finding::Passes
@@ -121,7 +119,7 @@ pub fn item_finding(
 ) -> Finding
     requires { ⌜ (AtItem (now board) (now index) s c) × (IsRow (now board) s row) ⌝ }
     requires { ⌜ (Tallied (now board) (now ballots) (s .items)) × (now sessions ≡ sessionChain (now board) (s .items)) ⌝ }
-    requires { ⌜ T (not (isBadRoll (now roll))) ⌝ }
+    requires { ⌜ GoodRoll (now roll) ⌝ }
     ensures { λ r. ⌜ foundOf r
         ≡ firstUnmet (checksOf (now (board .entry)) (onRoll (now (roll .entry))) (verdictAt (now (verdicts .entry)) (s .items)) s row) ⌝ }
 {

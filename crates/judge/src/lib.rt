@@ -1,10 +1,8 @@
 // One item, judged: the checks in their order, "5, 6, 4, then 7 to 16", 21 "right after 13". The first that applies is the answer.
 ghost use mathlib.Core.Path.{_≡_};
 ghost use Prim.Native.Nat.{_≤_, _<_};
-ghost use mathlib.Core.Bool.{not};
 ghost use lib.ListN.{length};
-ghost use lib.Dec.{T};
-ghost use Rattle.model.specs.Roll.{isBadRoll};
+ghost use Rattle.model.specs.Roll.{GoodRoll};
 ghost use Rattle.model.specs.Audit.{itemLimit};
 ghost use Rattle.format.specs.Layout.{itemOf};
 ghost use Rattle.index.specs.Kept.{Kept};
@@ -57,7 +55,7 @@ pub fn judge(
 ) -> Judged
     requires { ⌜ (Kept (now board) (now index) (s .items)) × (Stands (now board) s) × (Tallied (now board) (now ballots) (s .items)) ⌝ }
     requires { ⌜ (now parents ≡ parentChain (now board) (s .items)) × (now sessions ≡ sessionChain (now board) (s .items)) ⌝ }
-    requires { ⌜ (s .place < length (now board)) × (s .items < itemLimit) × (T (not (isBadRoll (now roll)))) ⌝ }
+    requires { ⌜ (s .place < length (now board)) × (s .items < itemLimit) × (GoodRoll (now roll)) ⌝ }
     ensures { λ r. ⌜ IsJudged (now (board .entry)) (now (verdicts .entry)) (now (roll .entry)) (now (index .entry)) s r ⌝ }
 {
     let place = s.place;

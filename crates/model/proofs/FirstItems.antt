@@ -44,7 +44,7 @@ module _ (f : Format) (on : Eligibility) (ws vs : List ℕ) (k : ℕ) where
   Meeting = (behind f ws here ≤ length ws) × Meets f on (history f ws k) (verdictOf f ws vs (history f ws k)) (itemAt f ws here)
 
   -- it does where it has no fault
-  fault-meets : (row : Option Row) → rowOf f (getD ws here 0) ≡ row → faultIn f on ws vs row (history f ws k) here ≡ noFault → Meeting
+  pub fault-meets : (row : Option Row) → rowOf f (getD ws here 0) ≡ row → faultIn f on ws vs row (history f ws k) here ≡ noFault → Meeting
   unfolding faultIn itemAt checks
   fault-meets none q e = absurd (omega arith)
   fault-meets (some r) q e =

@@ -1,10 +1,10 @@
 -- What the program prints: it needs of the files only their byte counts and as many words as it has room for, and what it prints for empty
 -- files, for a sound board, and for genesis alone. Paper: "The auditing program". Assumes nothing.
-use Prim.Native.Nat.{ℕ, zero, suc, _*_, _/_, _≤_, _<_}
+use Prim.Native.Nat.{ℕ, zero, suc, _*_, _/_, _%_, _≤_, _<_}
 use native.Mathlib.Omega.{arith}
 use native.Mathlib.Decide.{decLe}
 use mathlib.Core.Path.{_≡_, refl, sym, ap, _∙_}
-use mathlib.Core.Logic.{by-cases}
+use mathlib.Core.Logic.{_≢_, _⊎_, ⊎-elim, by-cases}
 use mathlib.Core.Bool.{true, not}
 use mathlib.Core.Option.{Option, none, some}
 use mathlib.Core.List.{List, [], _∷_, append-nil}
@@ -24,8 +24,8 @@ use Rattle.model.specs.Roll.{Eligibility, electors, rising, isBadRoll, o
 use Rattle.model.specs.Audit.{Outcome, accepted, faultIn, fault, closing, judged, wordAt, items, audit, itemLimit, indexNeed, ballotNeed, isTooLarge}
 use Rattle.model.specs.Report.{ballotRows}
 use Rattle.model.specs.Sound.{Passed, next, Sound}
-use Rattle.model.specs.Program.{fromBytes, bytesPerWord, programLimit, leastItem, programItems, verdictLimit, rollWords, areWhole, sizeFault, sized, programOutcome, filesOutcome, digits, spaced, refusedLine, acceptedLine, rowLines, textOf, printed}
-use Rattle.model.proofs.Tests.{tests, by-test, is-true, is-false, by-if, if-yes, if-no, not-not}
+use Rattle.model.specs.Program.{fromBytes, bytesPerWord, programLimit, leastItem, programItems, verdictLimit, rollKept, areWhole, sizeFault, sized, programOutcome, filesOutcome, digits, spaced, refusedLine, acceptedLine, rowLines, textOf, printed}
+use Rattle.model.proofs.Tests.{tests, by-test, is-true, is-false, by-if, if-yes, if-no, and-iff, not-iff, not-not}
 use Rattle.model.proofs.Parts.{part-take}
 use Rattle.model.proofs.Parsing.{length-words}
 use Rattle.model.proofs.Table.{countType, count-type-law}
@@ -97,17 +97,17 @@ module _ (f : Format) (on : Eligibility) (ws vs : List ℕ) (least : leastItem �
 long-roll : (roll : List ℕ) → 4096 < length roll → isBadRoll roll ≡ true
 long-roll roll l = by-test (isBadRoll roll) (λ q. q) (λ q. let (even, few, rises) = good-roll roll .0 (rw q tt) in absurd (omega arith))
 
-roll-cut : (f : Format) (ws vs roll : List ℕ) (index ballots : ℕ) → audit f ws vs (take rollWords roll) index ballots ≡ audit f ws vs roll index ballots
+roll-cut : (f : Format) (ws vs roll : List ℕ) (index ballots : ℕ) → audit f ws vs (take rollKept roll) index ballots ≡ audit f ws vs roll index ballots
 unfolding audit
 roll-cut f ws vs roll index ballots =
-    by-cases (decLe rollWords (length roll))
-    (λ l. rw (long-roll roll l, long-roll (take rollWords roll) (rw length-take (omega arith))))
-    (λ l. rw (take-all rollWords roll (omega arith)))
+    by-cases (decLe rollKept (length roll))
+    (λ l. rw (long-roll roll l, long-roll (take rollKept roll) (rw length-take (omega arith))))
+    (λ l. rw (take-all rollKept roll (omega arith)))
 
 -- ---- the words of all files
 
 words-cut : (f : Format) (ws vs roll : List ℕ) → leastItem ≤ itemLength f 0 → length ws ≤ programLimit
-    → audit f (take programLimit ws) (take verdictLimit vs) (take rollWords roll) indexNeed ballotNeed ≡ audit f ws vs roll indexNeed ballotNeed
+    → audit f (take programLimit ws) (take verdictLimit vs) (take rollKept roll) indexNeed ballotNeed ≡ audit f ws vs roll indexNeed ballotNeed
 unfolding audit
 words-cut f ws vs roll least short =
     roll-cut f (take programLimit ws) (take verdictLimit vs) roll indexNeed ballotNeed
@@ -171,12 +171,21 @@ sized-cut (suc n) o o′ e = refl
 module _ (f : Format) (board verdicts roll : List ℕ) where
   -- the byte counts are multiples of 4
   abbrev pub WholeFiles : Type 0
-  WholeFiles = T (areWhole (length board) (length verdicts) (length roll))
+  WholeFiles = (length board % 4 ≡ 0) × (length verdicts % 4 ≡ 0) × (length roll % 4 ≡ 0)
+
+  whole : WholeFiles → T (areWhole (length board) (length verdicts) (length roll))
+  whole (b, v, r) = rw (b, v, r) tt
+
+  not-whole : (length board % 4 ≢ 0) ⊎ (length verdicts % 4 ≢ 0) ⊎ (length roll % 4 ≢ 0) → T (not (areWhole (length board) (length verdicts) (length roll)))
+  not-whole odd =
+      not-iff (areWhole (length board) (length verdicts) (length roll)) .1 (λ t.
+      let parts = simp and-iff at t in
+      ⊎-elim (λ n. omega (arith, tests, n)) (λ y. ⊎-elim (λ n. omega (arith, tests, n)) (λ n. omega (arith, tests, n)) y) odd)
 
   -- of the files' words, the first 16,384, the first 3,430 and the first 4,097 are enough
   pub files-cut : leastItem ≤ itemLength f 0
       → programOutcome f (length board) (length verdicts) (length roll)
-      (take programLimit (fromBytes board)) (take verdictLimit (fromBytes verdicts)) (take rollWords (fromBytes roll))
+      (take programLimit (fromBytes board)) (take verdictLimit (fromBytes verdicts)) (take rollKept (fromBytes roll))
       ≡ filesOutcome f board verdicts roll
   unfolding filesOutcome
   files-cut least =
@@ -185,33 +194,35 @@ module _ (f : Format) (board verdicts roll : List ℕ) where
       (rw length-from-bytes (size-fine (length board) (length verdicts) (length roll) e)))
 
   -- "if either file's byte count isn't a multiple of 4, it is refused as 4 with 0", whatever else is wrong
-  pub odd-size : T (not (areWhole (length board) (length verdicts) (length roll))) → printed f board verdicts roll ≡ refusedLine truncated 0
+  pub odd-size : (length board % 4 ≢ 0) ⊎ (length verdicts % 4 ≢ 0) ⊎ (length roll % 4 ≢ 0) → printed f board verdicts roll ≡ refusedLine truncated 0
   unfolding filesOutcome sized textOf
-  odd-size t = rw (size-odd (length board) (length verdicts) (length roll) t)
+  odd-size odd = rw (size-odd (length board) (length verdicts) (length roll) (not-whole odd))
 
   -- "a board of at most 16,384 words (more is refused as 1)"
   pub over-size : WholeFiles → programLimit < length (fromBytes board) → printed f board verdicts roll ≡ refusedLine tooLarge 0
   unfolding filesOutcome sized textOf
-  over-size t l = rw (size-over (length board) (length verdicts) (length roll) t (rw length-from-bytes at l))
+  over-size w l = rw (size-over (length board) (length verdicts) (length roll) (whole w) (rw length-from-bytes at l))
 
-  -- "more than 4,096 words are a bad roll"
+  -- any other files are printed as the audit of their words answers
+  pub audited-printed : WholeFiles → length (fromBytes board) ≤ programLimit
+      → printed f board verdicts roll ≡ textOf (audit f (fromBytes board) (fromBytes verdicts) (fromBytes roll) indexNeed ballotNeed)
+  unfolding filesOutcome sized
+  audited-printed w short = rw (size-zero (length board) (length verdicts) (length roll) (whole w) (rw length-from-bytes at short))
+
+  -- so "more than 4,096 words are a bad roll"
   pub over-roll : WholeFiles → length (fromBytes board) ≤ programLimit → 4096 < length (fromBytes roll)
       → printed f board verdicts roll ≡ refusedLine badRoll 0
-  unfolding filesOutcome sized textOf audit
-  over-roll t short l =
-      rw (
-        size-zero (length board) (length verdicts) (length roll) t (rw length-from-bytes at short),
-        is-false (isTooLarge (fromBytes board)) (omega (arith, tests)),
-        long-roll (fromBytes roll) l,
-      )
+  unfolding audit textOf
+  over-roll w short l =
+      audited-printed w short
+      ∙ rw (is-false (isTooLarge (fromBytes board)) (omega (arith, tests)), long-roll (fromBytes roll) l)
 
-  -- a sound board that fits the program is printed as accepted
+  -- and a sound board is accepted
   pub sound-printed : {h : History} → WholeFiles → length (fromBytes board) ≤ programLimit
       → Sound f (fromBytes board) (fromBytes verdicts) (fromBytes roll) h → printed f board verdicts roll ≡ textOf (accepted h)
-  unfolding filesOutcome sized
-  sound-printed {h} t short sound =
-      rw (size-zero (length board) (length verdicts) (length roll) t (rw length-from-bytes at short))
-      (ap textOf (accepted↔sound f (fromBytes board) (fromBytes verdicts) (fromBytes roll) indexNeed ballotNeed h .1 (sound, omega arith, omega arith)))
+  sound-printed {h} w short sound =
+      audited-printed w short
+      ∙ ap textOf (accepted↔sound f (fromBytes board) (fromBytes verdicts) (fromBytes roll) indexNeed ballotNeed h .1 (sound, omega arith, omega arith))
 
 -- ---- samples
 

@@ -5,17 +5,17 @@ use native.Mathlib.Nat.{not-suc-le-zero}
 use native.Mathlib.Omega.{arith}
 use mathlib.Core.Path.{_≡_, refl, sym, ap, _∙_}
 use mathlib.Core.Logic.{_≢_, _↔_}
-use mathlib.Core.Bool.{Bool, true, false, not, _&&_}
+use mathlib.Core.Bool.{false, not}
 use mathlib.Core.List.{List, [], _∷_, map}
 use lib.ListN.{length, getD}
 use lib.Dec.{T, eqb, ltb, eqb→eq, eqb-refl, ltb→lt}
 use borrow.Author.Tests.{ne-eqb}
-use Rattle.model.specs.Lists.{if_then_else_, _⇒_, any, keep, has, distinct}
+use Rattle.model.specs.Lists.{if_then_else_, _⇒_, any, has, distinct}
 use Rattle.model.specs.Format.{Format}
 use Rattle.model.specs.Item.{Item, code}
-use Rattle.model.specs.History.{History, Entry, entry, itemNo, typed, entryOf, sessionVoter, sessionWeight}
+use Rattle.model.specs.History.{History, itemNo, typed, sessionVoter, sessionWeight}
 use Rattle.model.specs.Counted.{Vote, voteOf, votesIn, sameVoter, counted, totalWeight, voters}
-use Rattle.model.specs.Roll.{Elector, Eligibility, electors, rising, isBadRoll, names, onRoll, onRollOk, rollWeight, PairAt}
+use Rattle.model.specs.Roll.{Elector, Eligibility, electors, rising, voterNumbers, isBadRoll, GoodRoll, names, onRoll, onRollOk, rollWeight, PairAt}
 use Rattle.model.specs.Sound.{Passed, Sound}
 use Rattle.model.proofs.Tests.{tests, by-test, passes, is-false, and-iff, implies-iff, not-iff, not-not, neither, or-left, or-right}
 use Rattle.model.proofs.Lists.{Every, every-map, every-keep, every-latest}
@@ -32,18 +32,18 @@ length-electors [] = refl
 
 -- ---- one pair for a voter
 
-abbrev Numbers : List Elector → List ℕ
-Numbers = map (λ e. e .voter)
+abbrev numbers : List Elector → List ℕ
+numbers = map (λ e. e .voter)
 
 names-parts : (v w : ℕ) (e : Elector) → T (names v w e) → (e .voter ≡ v) × (e .weight ≡ w)
 names-parts v w e t = let (a, b) = and-iff (eqb (e .voter) v) (eqb (e .weight) w) .0 t in (eqb→eq (e .voter) v a, eqb→eq (e .weight) w b)
 
 -- numbers that rise are all more than the first
-not-below : (u v w : ℕ) (es : List Elector) → T (rising (u ∷ Numbers es)) → v ≤ u → T (any (names v w) es) → ⊥
+not-below : (u v w : ℕ) (es : List Elector) → T (rising (u ∷ numbers es)) → v ≤ u → T (any (names v w) es) → ⊥
 unfolding rising any
 not-below u v w [] t l n = n
 not-below u v w (e ∷ es) t l n =
-    let (a, b) = and-iff (ltb u (e .voter)) (rising (e .voter ∷ Numbers es)) .0 t in
+    let (a, b) = and-iff (ltb u (e .voter)) (rising (e .voter ∷ numbers es)) .0 t in
     let more = ltb→lt u (e .voter) a in
     by-test (names v w e)
     (λ q. let same = names-parts v w e (passes q) .0 in omega arith)
@@ -56,7 +56,7 @@ rising-rest n [] t = tt
 rising-rest n (m ∷ ns) t = and-iff (ltb n m) (rising (m ∷ ns)) .0 t .1
 
 -- a voter has one weight
-pub one-right : (v w x : ℕ) (es : List Elector) → T (rising (Numbers es)) → T (any (names v w) es) → T (any (names v x) es) → w ≡ x
+pub one-right : (v w x : ℕ) (es : List Elector) → T (rising (numbers es)) → T (any (names v w) es) → T (any (names v x) es) → w ≡ x
 unfolding any
 one-right v w x [] t a b = absurd a
 one-right v w x (e ∷ es) t a b =
@@ -66,9 +66,9 @@ one-right v w x (e ∷ es) t a b =
     (λ s. absurd (not-below (e .voter) v x es t (omega arith) (rw s at b))))
     (λ q. by-test (names v x e)
     (λ s. let voter = names-parts v x e (passes s) .0 in absurd (not-below (e .voter) v w es t (omega arith) (rw q at a)))
-    (λ s. one-right v w x es (rising-rest (e .voter) (Numbers es) t) (rw q at a) (rw s at b)))
+    (λ s. one-right v w x es (rising-rest (e .voter) (numbers es) t) (rw q at a) (rw s at b)))
 
-pub good-rising : (roll : List ℕ) → T (not (isBadRoll roll)) → T (rising (Numbers (electors roll)))
+pub good-rising : (roll : List ℕ) → GoodRoll roll → T (rising (voterNumbers roll))
 unfolding isBadRoll
 good-rising roll t = simp (neither, not-not) at t .1
 
@@ -157,40 +157,40 @@ pub on-roll : (roll : List ℕ) (v w : ℕ) → T (onRoll roll v w) ↔ ((p : �
 on-roll roll v w = (pair-named roll v w, λ (p, here). named-pair roll v w p here)
 
 -- voter numbers that rise: each is less than every later one
-more-than : (u : ℕ) (roll : List ℕ) (k : ℕ) → T (rising (u ∷ Numbers (electors roll))) → 2 * k + 1 < length roll → u < voterAt roll k
+more-than : (u : ℕ) (roll : List ℕ) (k : ℕ) → T (rising (u ∷ voterNumbers roll)) → 2 * k + 1 < length roll → u < voterAt roll k
 unfolding rising electors
 more-than u [] k t l = absurd (omega arith)
 more-than u (a ∷ []) k t l = absurd (omega arith)
-more-than u (a ∷ b ∷ roll) zero t l = ltb→lt u a (and-iff (ltb u a) (rising (a ∷ Numbers (electors roll))) .0 t .0)
+more-than u (a ∷ b ∷ roll) zero t l = ltb→lt u a (and-iff (ltb u a) (rising (a ∷ voterNumbers roll)) .0 t .0)
 more-than u (a ∷ b ∷ roll) (suc k) t l =
-    let (first, rest) = and-iff (ltb u a) (rising (a ∷ Numbers (electors roll))) .0 t in
+    let (first, rest) = and-iff (ltb u a) (rising (a ∷ voterNumbers roll)) .0 t in
     omega (arith, ltb→lt u a first, more-than a roll k rest (omega arith), voter-next a b roll k)
 
 abbrev Rises : List ℕ → Type 0
 Rises roll = (j k : ℕ) → j < k → 2 * k + 1 < length roll → voterAt roll j < voterAt roll k
 
-pub rising-words : (roll : List ℕ) → T (rising (Numbers (electors roll))) → Rises roll
+pub rising-words : (roll : List ℕ) → T (rising (voterNumbers roll)) → Rises roll
 unfolding electors
 rising-words [] t j k m l = absurd (omega arith)
 rising-words (a ∷ []) t j k m l = absurd (omega arith)
 rising-words (a ∷ b ∷ roll) t j zero m l = absurd (omega arith)
 rising-words (a ∷ b ∷ roll) t zero (suc k) m l = omega (arith, more-than a roll k t (omega arith), voter-next a b roll k)
 rising-words (a ∷ b ∷ roll) t (suc j) (suc k) m l =
-    omega (arith, rising-words roll (rising-rest a (Numbers (electors roll)) t) j k (omega arith) (omega arith), voter-next a b roll j, voter-next a b roll k)
+    omega (arith, rising-words roll (rising-rest a (voterNumbers roll) t) j k (omega arith) (omega arith), voter-next a b roll j, voter-next a b roll k)
 
-pub words-rising : (roll : List ℕ) → Rises roll → T (rising (Numbers (electors roll)))
+pub words-rising : (roll : List ℕ) → Rises roll → T (rising (voterNumbers roll))
 unfolding rising electors
 words-rising [] all = tt
 words-rising (a ∷ []) all = tt
 words-rising (a ∷ b ∷ []) all = tt
 words-rising (a ∷ b ∷ c ∷ []) all = tt
 words-rising (a ∷ b ∷ c ∷ d ∷ roll) all =
-    and-iff (ltb a c) (rising (c ∷ Numbers (electors roll))) .1 (
+    and-iff (ltb a c) (rising (c ∷ voterNumbers roll)) .1 (
       omega (arith, tests, all 0 1 (omega arith) (omega arith)),
       words-rising (c ∷ d ∷ roll) (λ j k m l. omega (arith, all (suc j) (suc k) (omega arith) (omega arith), voter-next a b (c ∷ d ∷ roll) j, voter-next a b (c ∷ d ∷ roll) k)),
     )
 
-pub good-roll : (roll : List ℕ) → T (not (isBadRoll roll)) ↔ ((length roll % 2 ≡ 0) × (length roll ≤ 4096) × Rises roll)
+pub good-roll : (roll : List ℕ) → GoodRoll roll ↔ ((length roll % 2 ≡ 0) × (length roll ≤ 4096) × Rises roll)
 unfolding isBadRoll
 good-roll roll = (
   λ t. let parts = simp (neither, not-not) at t in

@@ -11,6 +11,7 @@ use Rattle.model.specs.Refusal.{noFault, tooLarge, truncated}
 use Rattle.model.specs.Format.{Format}
 use Rattle.model.specs.History.{main}
 use Rattle.model.specs.Counted.{counted, totalWeight}
+use Rattle.model.specs.Roll.{rollRow, rollLimit}
 use Rattle.model.specs.Audit.{Outcome, unread, refused, accepted, audit, indexNeed, ballotNeed}
 use Rattle.model.specs.Report.{ballotRows}
 
@@ -43,8 +44,8 @@ abbrev pub verdictLimit : ℕ
 verdictLimit = 3430
 
 -- "more than 4,096 words are a bad roll", so roll words past 4,097 are only counted
-abbrev pub rollWords : ℕ
-rollWords = 4097
+abbrev pub rollKept : ℕ
+rollKept = rollRow * rollLimit + 1
 
 abbrev pub isWhole : ℕ → Bool
 isWhole bytes = eqb (bytes % bytesPerWord) 0
@@ -53,8 +54,8 @@ isWhole bytes = eqb (bytes % bytesPerWord) 0
 abbrev pub areWhole : (board verdicts roll : ℕ) → Bool
 areWhole board verdicts roll = isWhole board && isWhole verdicts && isWhole roll
 
--- the refusal of the files' sizes, from their byte counts. "if either file's byte count isn't a multiple of 4, it is refused as 4", before
--- "a board of at most 16,384 words (more is refused as 1)"
+-- the refusal of the files' sizes, from their byte counts. "if either file's byte count isn't a multiple of 4, it is refused as 4", with
+-- roll.words of any of the three, before "a board of at most 16,384 words (more is refused as 1)"
 unfoldable pub sizeFault : (board verdicts roll : ℕ) → ℕ
 unfolding if_then_else_
 sizeFault board verdicts roll =

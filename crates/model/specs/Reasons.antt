@@ -78,10 +78,10 @@ module _ (f : Format) (ws : List ℕ) (k : ℕ) where
   abbrev pub HeadAt : Type 0
   HeadAt = (placeOf f ws k < length ws) × T (not (isClosing (getD ws (placeOf f ws k) 0)))
 
--- "item by item: the item limit, 5, 6, 4, then 7 to 16 in order", 21 "right after 13", of the item there; `on` says who may vote. Each condition
--- stands alone: what it asks of an item that is not listed or not whole does not matter, since 5 or 4 comes first.
+-- "item by item: the item limit, 5, 6, 4, then 7 to 16 in order", 21 "right after 13", of the item there. Each condition stands
+-- alone: what it asks of an item that is not listed or not whole does not matter, since 5 or 4 comes first.
 unfoldable pub itemReasons : Format → Eligibility → (board verdicts : List ℕ) → ℕ → List Reason
-itemReasons f on ws vs k =
+itemReasons f eligible ws vs k =
     let p = placeOf f ws k in
     let w = getD ws p 0 in
     let row = rowOf f w in
@@ -99,7 +99,7 @@ itemReasons f on ws vs k =
     ∷ outOfPhase when not (phaseOk h i)
     ∷ duplicate when not (onlyOk h i)
     ∷ badContent when not (contentOk f h i)
-    ∷ notOnRoll when not (onRollOk on i)
+    ∷ notOnRoll when not (onRollOk eligible i)
     ∷ noVerdict when not (verdictOk v)
     ∷ wrongKey when not (listedWith (λ r. keyOk v (keyOf h (r .writer) i)) row)
     ∷ badSignature when not (signatureOk v)
@@ -113,7 +113,7 @@ closingReasons f ws vs k =
 
 -- the first k items pass: each has a head, and no reason applies to it
 abbrev pub PassedFirst : Format → Eligibility → List ℕ → List ℕ → ℕ → Type 0
-PassedFirst f on ws vs k = (j : ℕ) → j < k → HeadAt f ws j × NoneOf (itemReasons f on ws vs j)
+PassedFirst f eligible ws vs k = (j : ℕ) → j < k → HeadAt f ws j × NoneOf (itemReasons f eligible ws vs j)
 
 -- ---- the answers, with so many words in the index table and in the ballot table
 

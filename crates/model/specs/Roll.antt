@@ -5,7 +5,7 @@ use mathlib.Core.Path.{_≡_}
 use mathlib.Core.Bool.{Bool, true, not, _&&_, _||_}
 use mathlib.Core.List.{List, [], _∷_, map}
 use lib.ListN.{length, getD}
-use lib.Dec.{eqb, ltb}
+use lib.Dec.{T, eqb, ltb}
 use Rattle.model.specs.Lists.{_⇒_, any}
 use Rattle.model.specs.Codes.{sessionType}
 use Rattle.model.specs.Item.{Item, code}
@@ -36,27 +36,35 @@ rising (m ∷ n ∷ ns) = ltb m n && rising (n ∷ ns)
 rising (n ∷ []) = true
 rising [] = true
 
+abbrev pub voterNumbers : List ℕ → List ℕ
+voterNumbers roll = map (λ e. e .voter) (electors roll)
+
 -- 20 bad roll: "odd word count, too many pairs, or not rising"
 unfoldable pub isBadRoll : List ℕ → Bool
 isBadRoll roll =
     not (eqb (length roll % rollRow) 0)
     || ltb rollLimit (length (electors roll))
-    || not (rising (map (λ e. e .voter) (electors roll)))
+    || not (rising (voterNumbers roll))
 
--- who may vote: whether that voter may, with that weight
+abbrev pub GoodRoll : List ℕ → Type 0
+GoodRoll roll = T (not (isBadRoll roll))
+
+-- Who may vote: whether that voter may, with that weight. The rules ask no more of a roll than this, so what is shown of items that passed
+-- is shown for any roll.
 abbrev pub Eligibility : Type 0
 Eligibility = ℕ → ℕ → Bool
 
--- "a voter of the roll with that voter's weight"
+-- the pair is that voter with that weight
 abbrev pub names : ℕ → ℕ → Elector → Bool
 names voter weight e = eqb (e .voter) voter && eqb (e .weight) weight
 
+-- "a voter of the roll with that voter's weight"
 unfoldable pub onRoll : List ℕ → Eligibility
 onRoll roll voter weight = any (names voter weight) (electors roll)
 
 -- 21 not on the roll, "for sessions only": "A session must name a voter of the roll with that voter's weight."
 unfoldable pub onRollOk : Eligibility → Item → Bool
-onRollOk on i = eqb (code i) sessionType ⇒ on (sessionVoter i) (sessionWeight i)
+onRollOk eligible i = eqb (code i) sessionType ⇒ eligible (sessionVoter i) (sessionWeight i)
 
 -- ---- for the claims
 

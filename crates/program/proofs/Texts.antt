@@ -11,7 +11,7 @@ use Rattle.model.proofs.Tests.{by-test}
 use Rattle.model.specs.Format.{Format}
 use Rattle.model.specs.Audit.{Outcome, unread, refused, accepted, audit, ballotRow, ballotNeed}
 use Rattle.model.specs.Report.{Report, reportOf, ballotsAfter}
-use Rattle.model.specs.Program.{fromBytes, bytesPerWord, programLimit, verdictLimit, rollWords, textOf, sized, programOutcome, printed}
+use Rattle.model.specs.Program.{fromBytes, bytesPerWord, programLimit, verdictLimit, rollKept, textOf, sized, programOutcome, printed}
 use Rattle.model.proofs.Report.{audit-numbered}
 use Rattle.model.proofs.Bound.{few-ballots}
 use Rattle.sha256_block.specs.Fips.{sha256Words}
@@ -80,7 +80,7 @@ kept buffer file i p e r = rw (e, take-min) (sym (r .bytes))
 
 -- what is printed for files, from the bytes that are kept of them
 pub printed-shown : (board verdicts roll b v w : List ℕ) (i j n p q r : ℕ) {l m : List ℕ} {k : ℕ}
-    → length board ≡ bytesPerWord * programLimit → length verdicts ≡ bytesPerWord * verdictLimit → length roll ≡ bytesPerWord * rollWords
+    → length board ≡ bytesPerWord * programLimit → length verdicts ≡ bytesPerWord * verdictLimit → length roll ≡ bytesPerWord * rollKept
     → p ≡ min i (length board) → q ≡ min j (length verdicts) → r ≡ min n (length roll) → Read board i b → Read verdicts j v → Read roll n w
     → Shown l (textOf (programOutcome base i j n (fromBytes (take p board)) (fromBytes (take q verdicts)) (fromBytes (take r roll)))) m k
     → Shown l (printed base b v w) m k

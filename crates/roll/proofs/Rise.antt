@@ -5,14 +5,11 @@ use native.Mathlib.Omega.{arith}
 use mathlib.Core.Path.{_≡_, refl, sym}
 use mathlib.Core.Logic.{by-cases}
 use mathlib.Core.Bool.{true, false}
-use mathlib.Core.List.{List, map}
+use mathlib.Core.List.{List}
 use lib.ListN.{length, getD}
-use Rattle.model.specs.Roll.{electors, rising}
+use Rattle.model.specs.Roll.{rising, voterNumbers}
 use Rattle.model.proofs.Tests.{is-true, is-false}
 use Rattle.model.proofs.Roll.{rising-words, words-rising}
-
-abbrev voters : List ℕ → List ℕ
-voters roll = map (λ e. e .voter) (electors roll)
 
 -- the numbers of the first k pairs rise, and the last of them is known
 pub record Risen (roll : List ℕ) (k last : ℕ) : Type 0 where
@@ -24,10 +21,10 @@ pub risen-one : (roll : List ℕ) → Risen roll 1 (getD roll 0 0)
 risen-one roll = record { some = omega arith; seen = refl; less = λ i j l m. absurd (omega arith) }
 
 module _ {roll : List ℕ} {k last : ℕ} (r : Risen roll k last) where
-  pub risen-all : length roll / 2 ≤ k → true ≡ rising (voters roll)
+  pub risen-all : length roll / 2 ≤ k → true ≡ rising (voterNumbers roll)
   risen-all n = sym (is-true _ (words-rising roll (λ i j l m. r .less i j l (omega arith))))
 
-  pub risen-not : k < length roll / 2 → getD roll (2 * k) 0 ≤ last → false ≡ rising (voters roll)
+  pub risen-not : k < length roll / 2 → getD roll (2 * k) 0 ≤ last → false ≡ rising (voterNumbers roll)
   risen-not n m = sym (is-false _ (λ t. omega (arith, r .some, r .seen, rising-words roll t (k - 1) k (omega (arith, r .some)) (omega arith))))
 
   module _ (m : last < getD roll (2 * k) 0) where

@@ -11,7 +11,7 @@ use mathlib.Core.Bool.{false, not}
 use mathlib.Core.List.{List}
 use lib.ListN.{length, getD}
 use lib.Dec.{T, eqb, eqb→eq}
-use Rattle.model.specs.Roll.{electors, isBadRoll, onRoll}
+use Rattle.model.specs.Roll.{electors, GoodRoll, onRoll}
 use Rattle.model.proofs.Tests.{by-test, passes, is-true, is-false, eq→eqb}
 use Rattle.model.proofs.Roll.{good-roll, good-rising, one-right, on-roll}
 
@@ -33,12 +33,12 @@ pub record Left (roll : List ℕ) (voter looks low high : ℕ) : Type 0 where
   pub more : (j : ℕ) → high ≤ j → j < length roll / 2 → voter < getD roll (2 * j) 0
   pub few : high - low < 2 ^ looks
 
-pub left-all : (roll : List ℕ) (voter : ℕ) → T (not (isBadRoll roll)) → Left roll voter 12 0 (length roll / 2)
-left-all roll voter fair = record {
+pub left-all : (roll : List ℕ) (voter : ℕ) → GoodRoll roll → Left roll voter 12 0 (length roll / 2)
+left-all roll voter good = record {
   within = omega arith;
   less = λ j l. absurd (not-suc-le-zero l);
   more = λ j l m. absurd (omega arith);
-  few = let (even, few, rises) = good-roll roll .0 fair in omega arith;
+  few = let (even, few, rises) = good-roll roll .0 good in omega arith;
 }
 
 module _ {roll : List ℕ} {voter looks low high : ℕ} (left : Left roll voter looks low high) where
@@ -58,9 +58,9 @@ module _ {roll : List ℕ} {voter looks low high : ℕ} (left : Left roll voter 
     inside : mid < length roll / 2
     inside = omega (arith, left .within)
 
-    module _ (fair : T (not (isBadRoll roll))) where
+    module _ (good : GoodRoll roll) where
       less-before : (j k : ℕ) → j < k → k < length roll / 2 → getD roll (2 * j) 0 < getD roll (2 * k) 0
-      less-before j k l m = let (even, few, rises) = good-roll roll .0 fair in rises j k l (omega arith)
+      less-before j k l m = let (even, few, rises) = good-roll roll .0 good in rises j k l (omega arith)
 
       -- the voter's one pair has the voter's one weight
       pub left-found : getD roll (2 * mid) 0 ≡ voter → (weight : ℕ) → eqb (getD roll (2 * mid + 1) 0) weight ≡ onRoll roll voter weight
@@ -70,7 +70,7 @@ module _ {roll : List ℕ} {voter looks low high : ℕ} (left : Left roll voter 
           let here = on-roll roll voter w .1 (mid, (omega (arith, inside), q, refl)) in
           by-test (eqb w weight)
           (λ e. e ∙ sym (is-true _ (rw (eqb→eq w weight (passes e)) at here)))
-          (λ e. e ∙ sym (is-false _ (λ t. rw e at (eq→eqb w weight (one-right voter w weight (electors roll) (good-rising roll fair) here t)))))
+          (λ e. e ∙ sym (is-false _ (λ t. rw e at (eq→eqb w weight (one-right voter w weight (electors roll) (good-rising roll good) here t)))))
 
       pub left-after : getD roll (2 * mid) 0 < voter → Left roll voter (looks - 1) (mid + 1) high
       left-after l = record {

@@ -1,9 +1,6 @@
 // Checks 20 and 21: whether the roll is bad, and whether a session names a voter of the roll with that voter's weight. Paper: request (i).
 ghost use mathlib.Core.Path.{_≡_};
-ghost use mathlib.Core.Bool.{not};
-ghost use mathlib.Core.List.{map};
-ghost use lib.Dec.{T};
-ghost use Rattle.model.specs.Roll.{electors, rising, isBadRoll, onRoll, onRollOk};
+ghost use Rattle.model.specs.Roll.{rising, voterNumbers, isBadRoll, GoodRoll, onRoll, onRollOk};
 ghost use Rattle.index.specs.Kept.{itemAfter};
 ghost use Rattle.state.specs.Stands.{AtItem};
 use fields::Content;
@@ -16,8 +13,8 @@ use state::State;
 // How many pairs halving looks at, at most: a roll has fewer than 2 ^ 12.
 const LOOKS: usize = 12;
 
-// Whether the roll is bad (20): an odd word count, too many pairs, or voter numbers that do not rise.
-pub fn is_bad(roll: &[u32]) -> bool
+// Whether the roll is bad (20): an odd word count, too many pairs, or voter numbers that do not rise strictly.
+pub fn is_bad_roll(roll: &[u32]) -> bool
     ensures { λ r. ⌜ r ≡ isBadRoll (now (roll .entry)) ⌝ }
 {
     if roll.len() % Limit::ROLL_ROW != 0 {
@@ -26,12 +23,12 @@ pub fn is_bad(roll: &[u32]) -> bool
     if roll.len() / Limit::ROLL_ROW > Limit::ROLL {
         return true;
     }
-    !is_rising(roll)
+    !rising(roll)
 }
 
-// Whether the voter numbers of the pairs rise.
-fn is_rising(roll: &[u32]) -> bool
-    ensures { λ r. ⌜ r ≡ rising (map (λ e. e .voter) (electors (now (roll .entry)))) ⌝ }
+// Whether the voter numbers of the pairs rise strictly.
+fn rising(roll: &[u32]) -> bool
+    ensures { λ r. ⌜ r ≡ rising (voterNumbers (now (roll .entry))) ⌝ }
 {
     let pairs = roll.len() / Limit::ROLL_ROW;
     if pairs == 0 {
@@ -52,8 +49,8 @@ fn is_rising(roll: &[u32]) -> bool
 
 // Whether the roll has that voter with that weight. The voter is found by halving: at most 12 pairs are looked at. `looks` counts
 // down, and that it never goes below 0 is proved.
-fn has(roll: &[u32], voter: u32, weight: u32) -> bool
-    requires { ⌜ T (not (isBadRoll (now roll))) ⌝ }
+fn on_roll(roll: &[u32], voter: u32, weight: u32) -> bool
+    requires { ⌜ GoodRoll (now roll) ⌝ }
     ensures { λ r. ⌜ r ≡ onRoll (now (roll .entry)) voter weight ⌝ }
 {
     let mut looks = LOOKS;
@@ -76,9 +73,9 @@ fn has(roll: &[u32], voter: u32, weight: u32) -> bool
 }
 
 // 21 not on the roll, of the item after those that passed: a session names a voter of the roll with that voter's weight.
-pub fn on_roll_ok(board: &[u32], index: &[u32], roll: &[u32], s: State, c: Known) -> bool
+pub fn on_roll_ok(board: &[u32], roll: &[u32], index: &[u32], s: State, c: Known) -> bool
     requires { ⌜ AtItem (now board) (now index) s c ⌝ }
-    requires { ⌜ T (not (isBadRoll (now roll))) ⌝ }
+    requires { ⌜ GoodRoll (now roll) ⌝ }
     ensures { λ r. ⌜ r ≡ onRollOk (onRoll (now (roll .entry))) (itemAfter (now (board .entry)) (s .items)) ⌝ }
 {
     if c.item.head.code != Head::SESSION {
@@ -87,5 +84,5 @@ pub fn on_roll_ok(board: &[u32], index: &[u32], roll: &[u32], s: State, c: Known
     let item = c.item;
     let voter = word(board, item, Content::VOTER);
     let weight = word(board, item, Content::WEIGHT);
-    has(roll, voter, weight)
+    on_roll(roll, voter, weight)
 }

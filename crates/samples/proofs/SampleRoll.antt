@@ -18,7 +18,7 @@ use Rattle.model.specs.Content.{contestsOk, mayVote, cryptogramsOk, contestOk, 
 use Rattle.model.specs.Roll.{electors, rising, isBadRoll, onRoll, onRollOk, rollWeight}
 use Rattle.model.specs.Keys.{opening, keyOf, verdictOk, keyOk, signatureOk}
 use Rattle.model.specs.Audit.{Outcome, unread, refused, accepted, firstUnmet, checks, faultIn, closing, judged, wordAt, items, audit, indexNeed, ballotNeed}
-use Rattle.samples.proofs.SampleElection.{Signed, _by_, item, key, toy, election, wordsIn, verdictsIn, board, verdicts, items-in, is-accepted, votes}
+use Rattle.samples.proofs.SampleElection.{Signed, _by_, item, key, toy, election, wordsIn, verdictsIn, board, verdicts, roll, items-in, is-accepted, votes}
 
 -- the answer for the election with a roll
 abbrev answer : List ℕ → Outcome
@@ -29,10 +29,10 @@ abbrev answerOf : List Signed → List ℕ → Outcome
 answerOf ss roll = audit toy (wordsIn ss ++ (closingWord (length ss) ∷ [])) (verdictsIn ss) roll indexNeed ballotNeed
 
 -- item 6 is the session: voter 9, with the weight 5. The others do not vote, one of them with the weight 0
-pub with-roll : answer (3 ∷ 2 ∷ 9 ∷ 5 ∷ 20 ∷ 0 ∷ []) ≡ accepted (history toy board 21)
+pub with-roll : answer roll ≡ accepted (history toy board 21)
 with-roll = is-accepted
 
--- the counted ballots weigh 5, the roll 7
+-- the counted ballots weigh 5, the roll 7: the claim of the weights is a bound, so this is what fixes the roll's weight
 pub weights : (totalWeight (counted (history toy board 21)) ≡ 5) × (rollWeight (electors (3 ∷ 2 ∷ 9 ∷ 5 ∷ 20 ∷ 0 ∷ [])) ≡ 7)
 unfolding totalWeight electors rollWeight
 weights = (ap totalWeight votes, refl)
@@ -57,11 +57,12 @@ pub not-on-roll : (answer (3 ∷ 2 ∷ 20 ∷ 0 ∷ []) ≡ refused 21 5)
 unfolding election wordsIn verdictsIn wordsOf hashed if_then_else_ _⇒_ part any count keep latest onesIn kindOf codeOf countOf sameWords pair lowZero member everyBelow allIn itemLength itemAt rowOf rowIn table fits entry firstFrom lastFrom mainItem endAfter endAddress parentNumber sessionNumber entryOf placeOf history voteOf counted contents addressOk previousOk parentOk timeOk rounds isOpen extractionOk openOk standingOk latestOk intentOk spoiledOk phaseOk onBoardOk underParentOk underBallotOk onlyOk contestsOk mayVote cryptogramsOk contestOk thresholdOk authorizerOk roundOk sessionOk commitmentOk ballotOk fingerprintOk trusteesOk contentOk electors rising isBadRoll onRoll onRollOk opening keyOf verdictOk keyOk signatureOk firstUnmet checks faultIn closing judged wordAt items audit items-in
 not-on-roll = (refl, refl, refl, refl, refl)
 
--- the items up to the session, and a second one: of the voter with the same weight, with another weight, and of another voter
+-- the items up to the session, and a second one: of the voter with the same weight, with another weight, and of another voter; with a weight
+-- of 0, as the roll has it, 13 comes first
 abbrev second : ℕ → ℕ → Outcome
 second voter weight =
-    answerOf (take 6 election ++ (item 0x10100013 (voter ∷ weight ∷ key 4 ++ key 0 ++ (1 ∷ [])) 5 6 7 by 3 ∷ [])) (3 ∷ 2 ∷ 9 ∷ 5 ∷ [])
+    answerOf (take 6 election ++ (item 0x10100013 (voter ∷ weight ∷ key 4 ++ key 0 ++ (1 ∷ [])) 5 6 7 by 3 ∷ [])) (3 ∷ 2 ∷ 9 ∷ 5 ∷ 20 ∷ 0 ∷ [])
 
-pub two-sessions : (items-in (second 9 5) ≡ 7) × (second 9 2 ≡ refused 21 6) × (items-in (second 3 2) ≡ 7)
+pub two-sessions : (items-in (second 9 5) ≡ 7) × (second 9 2 ≡ refused 21 6) × (items-in (second 3 2) ≡ 7) × (second 20 0 ≡ refused 13 6)
 unfolding election wordsIn verdictsIn wordsOf hashed if_then_else_ _⇒_ part any count keep latest onesIn kindOf codeOf countOf sameWords pair lowZero member everyBelow allIn itemLength itemAt rowOf rowIn table fits entry firstFrom lastFrom mainItem endAfter endAddress parentNumber sessionNumber entryOf placeOf history voteOf counted contents addressOk previousOk parentOk timeOk rounds isOpen extractionOk openOk standingOk latestOk intentOk spoiledOk phaseOk onBoardOk underParentOk underBallotOk onlyOk contestsOk mayVote cryptogramsOk contestOk thresholdOk authorizerOk roundOk sessionOk commitmentOk ballotOk fingerprintOk trusteesOk contentOk electors rising isBadRoll onRoll onRollOk opening keyOf verdictOk keyOk signatureOk firstUnmet checks faultIn closing judged wordAt items audit items-in
-two-sessions = (refl, refl, refl)
+two-sessions = (refl, refl, refl, refl)

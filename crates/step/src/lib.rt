@@ -1,10 +1,8 @@
 // One step of the audit: the item after those that passed is judged, and where it passes, the state and all tables go on behind it.
 ghost use mathlib.Core.Path.{_≡_};
 ghost use Prim.Native.Nat.{_+_, _<_};
-ghost use mathlib.Core.Bool.{not};
 ghost use lib.ListN.{length};
-ghost use lib.Dec.{T};
-ghost use Rattle.model.specs.Roll.{isBadRoll};
+ghost use Rattle.model.specs.Roll.{GoodRoll};
 ghost use Rattle.model.specs.Audit.{itemLimit};
 ghost use Rattle.index.specs.Known.{Passing};
 ghost use Rattle.step.specs.Steps.{Reached, Stepped};
@@ -53,7 +51,7 @@ pub fn advance(
     s: State,
 ) -> Step
     requires { ⌜ Reached (now board) (now index) (now ballots) (now parents) (now sessions) s ⌝ }
-    requires { ⌜ (s .place < length (now board)) × (s .items < itemLimit) × (T (not (isBadRoll (now roll)))) ⌝ }
+    requires { ⌜ (s .place < length (now board)) × (s .items < itemLimit) × (GoodRoll (now roll)) ⌝ }
     ensures { λ r. ⌜ Stepped (now (board .entry)) (now (verdicts .entry)) (now (roll .entry))
         (now (index .entry)) (now (ballots .entry)) (now (parents .entry)) (now (sessions .entry))
         (now (index .exit)) (now (ballots .exit)) (now (parents .exit)) (now (sessions .exit)) s r ⌝ }

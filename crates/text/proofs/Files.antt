@@ -6,7 +6,7 @@ use mathlib.Core.List.{List, [], _∷_}
 use lib.ListN.{length, take}
 use Rattle.model.specs.Format.{Format}
 use Rattle.model.specs.Item.{itemLength}
-use Rattle.model.specs.Program.{fromBytes, bytesPerWord, programLimit, verdictLimit, rollWords, leastItem, programOutcome, filesOutcome}
+use Rattle.model.specs.Program.{fromBytes, bytesPerWord, programLimit, verdictLimit, rollKept, leastItem, programOutcome, filesOutcome}
 use Rattle.model.proofs.Program.{files-cut}
 
 -- the words of the first bytes are the first words
@@ -27,12 +27,12 @@ fromBytes-take (suc n) (suc (suc (suc zero))) bs e = absurd (omega arith)
 -- the outcome from the bytes that are kept and the byte counts of the whole files
 pub kept-enough : (f : Format) (board verdicts roll : List ℕ) → leastItem ≤ itemLength f 0
     → programOutcome f (length board) (length verdicts) (length roll)
-    (fromBytes (take (bytesPerWord * programLimit) board)) (fromBytes (take (bytesPerWord * verdictLimit) verdicts)) (fromBytes (take (bytesPerWord * rollWords) roll))
+    (fromBytes (take (bytesPerWord * programLimit) board)) (fromBytes (take (bytesPerWord * verdictLimit) verdicts)) (fromBytes (take (bytesPerWord * rollKept) roll))
     ≡ filesOutcome f board verdicts roll
 kept-enough f board verdicts roll least =
     rw (
       fromBytes-take programLimit (bytesPerWord * programLimit) board refl,
       fromBytes-take verdictLimit (bytesPerWord * verdictLimit) verdicts refl,
-      fromBytes-take rollWords (bytesPerWord * rollWords) roll refl,
+      fromBytes-take rollKept (bytesPerWord * rollKept) roll refl,
     )
     (files-cut f board verdicts roll least)

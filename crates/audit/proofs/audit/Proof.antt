@@ -35,8 +35,8 @@ returns-3 c =
     audited-unread (x .board .now) (x .verdicts .now) (x .roll .now) (x .index .now) (x .ballots .now) _
     (audit-short-ballots (x .board .now) (x .verdicts .now) (x .roll .now) (x .index .now) (x .ballots .now) (c .before .before .before .if1 .left) (c .before .before .if2 .left) (c .before .if3 .taken)) (c .refused3 .result) (c .refused3 .ensures)
 
-start-requires : tie.Need-start-requires
-start-requires c κs = search needs
+read-requires : tie.Need-read-requires
+read-requires c κs = search needs
 
 same-length : tie.Need-same-length
 same-length c = search needs
@@ -57,7 +57,7 @@ audit-spec =
     returns-2
     refused-requires-3
     returns-3
-    start-requires
+    read-requires
     same-length
     same-length-2
     returns-4)

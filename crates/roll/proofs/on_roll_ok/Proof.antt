@@ -20,15 +20,16 @@ word-requires-2 : tie.Need-word-requires-2
 word-requires-2 c κs =
     content-within (c .before .before .before .before .before .before .before .pre .0)
 
-has-requires : tie.Need-has-requires
-has-requires c κs = search needs
+on-roll-requires : tie.Need-on-roll-requires
+on-roll-requires c κs = search needs
 
 returns-2 : tie.Need-returns-2
 returns-2 c =
     let s = c .before .before .before .before .before .before .before .before .before in
-    c .has .ensures
-    ∙ roll-is (s .pre .0) (onRoll (s .args .roll .now)) (c .before .before .before .before .if1 .left) _ _ (c .before .before .word .ensures ∙ content-word (s .pre .0) 0) (c .before .word2 .ensures ∙ content-word (s .pre .0) 1)
+    c .on-roll .ensures
+    ∙ roll-is (s .pre .0) (onRoll (s .args .roll .now)) (c .before .before .before .before .if1 .left) _ _
+    (c .before .before .word .ensures ∙ content-word (s .pre .0) 0) (c .before .word2 .ensures ∙ content-word (s .pre .0) 1)
 
 pub on-roll-ok-spec : {M : Type 1} → statement M
 on-roll-ok-spec =
-    tie.close (tie.spec returns word-requires word-requires-2 has-requires returns-2)
+    tie.close (tie.spec returns word-requires word-requires-2 on-roll-requires returns-2)

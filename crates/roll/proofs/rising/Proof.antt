@@ -1,12 +1,12 @@
--- `is_rising` meets its contract. The invariant: the first k numbers rise. Assumes nothing.
+-- `rising` meets its contract. The invariant: the first k numbers rise. Assumes nothing.
 use mathlib.Core.Path.{_≡_}
 use Prim.Native.Nat.{_-_, _/_}
 use lib.ListN.{length}
 use native.Mathlib.Omega.{arith}
 use borrow.Author.Needs.{needs}
 use Rattle.roll.proofs.Rise.{Risen, risen-one, risen-all, risen-more, risen-not}
-use Rattle.roll.proofs.is_rising.Statement.{statement}
-use Rattle.roll.proofs.is_rising.Tie as tie
+use Rattle.roll.proofs.rising.Statement.{statement}
+use Rattle.roll.proofs.rising.Tie as tie
 
 abbrev Inv-loop : tie.InvT-loop
 Inv-loop roll pairs last₀ k₀ last k = (pairs ≡ length roll / 2) × Risen roll k last
@@ -53,8 +53,8 @@ returns-3 c =
     let l = c .before in
     risen-all (l .loop .inv .1) (c .loop-test .left)
 
-pub is-rising-spec : {M : Type 1} → statement M
-is-rising-spec =
+pub rising-spec : {M : Type 1} → statement M
+rising-spec =
     tie.close
     (tie.spec
     Inv-loop

@@ -1,10 +1,10 @@
--- `has` meets its contract. The invariant: the voter is in what is left, or not on the roll, and the looks suffice. Assumes nothing.
+-- `on_roll` meets its contract. The invariant: the voter is in what is left, or not on the roll, and the looks suffice. Assumes nothing.
 use Prim.Native.Nat.{_-_}
 use native.Mathlib.Omega.{arith}
 use borrow.Author.Needs.{needs}
 use Rattle.roll.proofs.Search.{Left, left-all, left-none, left-looks, left-found, left-after, left-before}
-use Rattle.roll.proofs.has.Statement.{statement}
-use Rattle.roll.proofs.has.Tie as tie
+use Rattle.roll.proofs.on_roll.Statement.{statement}
+use Rattle.roll.proofs.on_roll.Tie as tie
 
 abbrev Inv-loop : tie.InvT-loop
 Inv-loop roll voter weight looks₀ low₀ high₀ looks low high = Left roll voter looks low high
@@ -71,8 +71,8 @@ returns-2 c =
     let l = c .before in
     left-none (l .loop .inv) (c .loop-test .left) (l .before .args .weight)
 
-pub has-spec : {M : Type 1} → statement M
-has-spec =
+pub on-roll-spec : {M : Type 1} → statement M
+on-roll-spec =
     tie.close
     (tie.spec
     Inv-loop
