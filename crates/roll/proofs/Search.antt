@@ -7,10 +7,10 @@ use native.Mathlib.Decide.{decLe}
 use native.Mathlib.Omega.{arith}
 use mathlib.Core.Path.{_≡_, refl, sym, _∙_}
 use mathlib.Core.Logic.{by-cases}
-use mathlib.Core.Bool.{false, not}
+use mathlib.Core.Bool.{false}
 use mathlib.Core.List.{List}
 use lib.ListN.{length, getD}
-use lib.Dec.{T, eqb, eqb→eq}
+use lib.Dec.{eqb, eqb→eq}
 use Rattle.model.specs.Roll.{electors, GoodRoll, onRoll}
 use Rattle.model.proofs.Tests.{by-test, passes, is-true, is-false, eq→eqb}
 use Rattle.model.proofs.Roll.{good-roll, good-rising, one-right, on-roll}
