@@ -1,6 +1,6 @@
 /* Audits the board in a folder: examples/build, then target/examples/audit FOLDER
-   FOLDER has board.words, verdicts.words and roll.words: each word four bytes, high byte first. The exit status is 0 for a board that is accepted, 1 for
-   one that is refused, 2 where a file can't be read. */
+   FOLDER has board.words, verdicts.words and roll.words: each word four bytes, high byte first. The exit status is 0 for a board that is
+   accepted, 1 for one that is refused, 2 where a file can't be read. */
 #include "../include/tirfolma.h"
 
 #include <inttypes.h>

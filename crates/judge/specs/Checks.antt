@@ -22,9 +22,9 @@ rowWith board s row = record {
   counts = countsOf (row .counts);
 }
 
--- 7 to 16 and 21, of the item after those that passed, with its verdict words v, where `on` says who may vote
+-- 7 to 16 and 21, of the item after those that passed, with its verdict words v
 abbrev pub checksOf : List ℕ → Eligibility → List ℕ → State → Row → List Check
-checksOf board on v s row = checks base on (before board (s .items)) v (rowWith board s row) (itemAfter board (s .items))
+checksOf board eligible v s row = checks base eligible (before board (s .items)) v (rowWith board s row) (itemAfter board (s .items))
 
 -- of these 7 to 10, 11 to 13 and 21, and 14 to 16
 abbrev pub linkChecks : List Check → List Check

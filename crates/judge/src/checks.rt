@@ -19,7 +19,8 @@ use state::State;
 // Its links to the items before it.
 fn links_finding(board: &[u32], index: &[u32], s: State, c: Known, row: Row) -> Finding
     requires { ⌜ (AtItem (now board) (now index) s c) × (IsRow (now board) s row) ⌝ }
-    ensures { λ r. ⌜ ((on : Eligibility) (v : List ℕ) → foundOf r ≡ firstUnmet (linkChecks (checksOf (now (board .entry)) on v s row))) ⌝ }
+    ensures { λ r. ⌜ ((eligible : Eligibility) (v : List ℕ)
+        → foundOf r ≡ firstUnmet (linkChecks (checksOf (now (board .entry)) eligible v s row))) ⌝ }
 {
     // 7 false address
     if !links::address_ok(board, c.item) {
@@ -87,8 +88,8 @@ fn verdict_finding(
     row: Row,
 ) -> Finding
     requires { ⌜ (AtItem (now board) (now index) s c) × (IsRow (now board) s row) ⌝ }
-    ensures { λ r. ⌜ ((on : Eligibility) → foundOf r
-        ≡ firstUnmet (verdictChecks (checksOf (now (board .entry)) on (verdictAt (now (verdicts .entry)) (s .items)) s row))) ⌝ }
+    ensures { λ r. ⌜ ((eligible : Eligibility) → foundOf r
+        ≡ firstUnmet (verdictChecks (checksOf (now (board .entry)) eligible (verdictAt (now (verdicts .entry)) (s .items)) s row))) ⌝ }
 {
     // 14 no verdict
     if !keys::verdict_ok(verdicts, s.items) {

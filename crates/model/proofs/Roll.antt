@@ -117,6 +117,11 @@ votes-weight (x ∷ xs) es d all =
     let left = still-enrolled v w xs es (not-iff (has v (voters xs)) .0 new) (all .1) in
     omega (arith, votes-weight xs (takeAway v w es) rest left, away-weight v w es (all .0))
 
+pub roll-weight : (rollWeight (electors []) ≡ 0)
+    × ((v w : ℕ) (roll : List ℕ) → rollWeight (electors (v ∷ w ∷ roll)) ≡ w + rollWeight (electors roll))
+unfolding rollWeight electors
+roll-weight = (refl, λ v w roll. refl)
+
 -- ---- by the roll's words
 
 abbrev voterAt : List ℕ → ℕ → ℕ

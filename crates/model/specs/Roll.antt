@@ -49,8 +49,8 @@ isBadRoll roll =
 abbrev pub GoodRoll : List ℕ → Type 0
 GoodRoll roll = T (not (isBadRoll roll))
 
--- Who may vote: whether that voter may, with that weight. The rules ask no more of a roll than this, so what is shown of items that passed
--- is shown for any roll.
+-- Who may vote: whether that voter may, with that weight. The rules of an item ask no more of a roll than this, so what is shown of items
+-- that passed is shown for any roll.
 abbrev pub Eligibility : Type 0
 Eligibility = ℕ → ℕ → Bool
 

@@ -13,6 +13,9 @@ use state::State;
 // How many pairs halving looks at, at most: a roll has fewer than 2 ^ 12.
 const LOOKS: usize = 12;
 
+// Where in a pair the weight stands, behind the voter's number.
+const WEIGHT: usize = 1;
+
 // Whether the roll is bad (20): an odd word count, too many pairs, or voter numbers that do not rise strictly.
 pub fn is_bad_roll(roll: &[u32]) -> bool
     ensures { λ r. ⌜ r ≡ isBadRoll (now (roll .entry)) ⌝ }
@@ -61,7 +64,7 @@ fn on_roll(roll: &[u32], voter: u32, weight: u32) -> bool
         let mid = (low + high) / 2;
         let found = roll[Limit::ROLL_ROW * mid];
         if found == voter {
-            return roll[Limit::ROLL_ROW * mid + 1] == weight;
+            return roll[Limit::ROLL_ROW * mid + WEIGHT] == weight;
         }
         if found < voter {
             low = mid + 1;
