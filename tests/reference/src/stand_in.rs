@@ -119,7 +119,7 @@ mistakes! {
     BehindRoll, Unenrolled, "a session passes with the pair behind the roll";
     FirstPairUnseen, Refused, "the roll's first pair is not looked at";
     LastPairUnseen, Refused, "the roll's last pair is not looked at";
-    HalvingMissesLast, Refused, "a search by halving does not look at the last pair left";
+    HalvingLeavesOne, Refused, "a search by halving ends with one pair left";
     BallotOnRoll, Refused, "a ballot's first two words are sought on the roll";
     RollBeforeContent, Order, "21 comes before 13";
     RollAfterVerdict, Order, "21 comes after 14";
@@ -328,7 +328,7 @@ unsafe extern "C" fn stand_in_audit(
     let board = Board {
         words: from_raw_parts(board, board_len),
         verdicts: from_raw_parts(verdicts, verdicts_len),
-        roll: rolls::lent(roll, roll_len),
+        roll: rolls::taken(roll, roll_len),
     };
     let tables =
         Tables { index: from_raw_parts_mut(index, index_len), ballots: from_raw_parts_mut(ballots, ballots_len) };
@@ -360,12 +360,12 @@ unsafe extern "C" fn stand_in_compare(
     let kept = Board {
         words: from_raw_parts(kept, kept_len),
         verdicts: from_raw_parts(kept_verdicts, kept_verdicts_len),
-        roll: rolls::lent(kept_roll, kept_roll_len),
+        roll: rolls::taken(kept_roll, kept_roll_len),
     };
     let mut later = Board {
         words: from_raw_parts(later, later_len),
         verdicts: from_raw_parts(later_verdicts, later_verdicts_len),
-        roll: rolls::lent(later_roll, later_roll_len),
+        roll: rolls::taken(later_roll, later_roll_len),
     };
     if made() == Some(Mistake::RollOfKept) {
         later.roll = kept.roll;
@@ -416,7 +416,7 @@ unsafe extern "C" fn stand_in_ancestry(
     let board = Board {
         words: from_raw_parts(board, board_len),
         verdicts: from_raw_parts(verdicts, verdicts_len),
-        roll: rolls::lent(roll, roll_len),
+        roll: rolls::taken(roll, roll_len),
     };
     let tables =
         Tables { index: from_raw_parts_mut(index, index_len), ballots: from_raw_parts_mut(ballots, ballots_len) };

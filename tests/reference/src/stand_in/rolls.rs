@@ -7,7 +7,7 @@ use crate::format::*;
 use std::slice::from_raw_parts;
 
 /// A roll as an entry takes it: with the pair behind it where that is the mistake.
-pub unsafe fn lent<'a>(roll: *const u32, len: usize) -> &'a [u32] {
+pub unsafe fn taken<'a>(roll: *const u32, len: usize) -> &'a [u32] {
     match made() {
         Some(Mistake::BehindRoll) => from_raw_parts(roll, len + ROLL_ROW),
         _ => from_raw_parts(roll, len),
@@ -68,7 +68,7 @@ pub fn roll_search() -> fn(&[u32], u32, &[u32]) -> bool {
         Some(Mistake::LastPairUnseen) => {
             |roll, code, content| is_enrolled(&roll[..roll.len().saturating_sub(ROLL_ROW)], code, content)
         }
-        Some(Mistake::HalvingMissesLast) => |roll, code, content| code != SESSION || is_found_by_halving(roll, content),
+        Some(Mistake::HalvingLeavesOne) => |roll, code, content| code != SESSION || is_found_by_halving(roll, content),
         Some(Mistake::BallotOnRoll) => {
             |roll, code, content| !matches!(code, SESSION | BALLOT) || is_on_roll(roll, content[0], content[1])
         }
@@ -83,8 +83,8 @@ fn any_pair(roll: &[u32], is: impl Fn(u32, u32) -> bool) -> bool {
 /// A search by halving that ends too soon: where one pair is left, it is not looked at.
 fn is_found_by_halving(roll: &[u32], content: &[u32]) -> bool {
     let pairs: Vec<&[u32]> = roll.chunks_exact(ROLL_ROW).collect();
-    let (mut low, mut high) = (0, pairs.len().saturating_sub(1));
-    while low < high {
+    let (mut low, mut high) = (0, pairs.len());
+    while low + 1 < high {
         let middle = (low + high) / 2;
         if pairs[middle][roll_row::VOTER] == content[0] {
             return pairs[middle][roll_row::WEIGHT] == content[1];
