@@ -367,6 +367,7 @@ fn check(rules: Rules, given: Board, history: &History, item: &Candidate) -> Res
     if !content_fits(rules.hash, history, board, item, session) {
         return Err(13);
     }
+    // 21: the roll.
     if !(rules.is_enrolled)(given.roll, item.code, item.content) {
         return Err(21);
     }

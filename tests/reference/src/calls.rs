@@ -1,7 +1,7 @@
 //! One call of an entry over the C interface: buffers of any length, full of junk and with guard words on
-//! both sides, go to an implementation, and rolls with guard words that would change the answer if they were
-//! read; the reference is given the same words. The call can then be held to the reference word by word, to
-//! the boards alone, or to stored tables. Which lengths are tried with which boards is told in `checks`.
+//! both sides, go to an implementation, and rolls between pairs that can change the answer if they are read
+//! (`guard_pair`); the reference is given the same words. The call can then be held to the reference word by
+//! word, to the boards alone, or to stored tables. Which lengths are tried with which boards is told in `checks`.
 
 use crate::ancestry::ancestry;
 use crate::audit::{audit, is_on_roll, Board};
@@ -30,7 +30,7 @@ pub struct Call<'a> {
     expected: bool,
     buffers: Vec<(Buffer, &'static str)>,
     /// As they were passed, and by name.
-    rolls: Vec<(Lent<'a>, &'static str)>,
+    rolls: Vec<(GuardedRoll<'a>, &'static str)>,
     /// In the order in which they are audited.
     boards: Vec<Passed<'a>>,
 }
@@ -143,7 +143,7 @@ pub fn call_audit<'a>(
     }
     let (il, bl, al) = (index.len(), ballots.len(), answer.len());
     let board = case.board();
-    let roll = Lent::new(board, random);
+    let roll = GuardedRoll::new(board, random);
     // Each pointer is of a live buffer of at least the length given with it.
     #[rustfmt::skip]
     let given = unsafe {
@@ -189,8 +189,8 @@ pub fn call_compare<'a>(
     } else {
         tally[SHORT_ANSWER] += 1;
     }
-    let kept_roll = Lent::new(kept, random);
-    let later_roll = Lent::new(later, random);
+    let kept_roll = GuardedRoll::new(kept, random);
+    let later_roll = GuardedRoll::new(later, random);
     // Equal rolls are at times one.
     let one = kept.roll == later.roll && random.chance(50);
     let later_pointer = if one { kept_roll.pointer() } else { later_roll.pointer() };
@@ -265,7 +265,7 @@ pub fn call_ancestry<'a>(
     let number = asked(item_count(case), random);
     let enough = answer.len() >= ANCESTRY_ANSWER;
     let board = case.board();
-    let roll = Lent::new(board, random);
+    let roll = GuardedRoll::new(board, random);
     if enough {
         let (i, b, l) = (&mut index.reference, &mut ballots.reference, &mut list.reference);
         let expected = ancestry(board.words, board.verdicts, board.roll, number, i, b, l);
@@ -331,20 +331,19 @@ fn main_count(words: &[u32]) -> usize {
 
 // ---- rolls ----
 
-/// A roll that is lent for reading: with a pair of the board on both sides, or where the board itself has
-/// these words.
-struct Lent<'a> {
+/// A roll as it is passed: between two guard pairs, or where the board itself has these words.
+struct GuardedRoll<'a> {
     guarded: Vec<u32>,
     before: Vec<u32>,
     inside: Option<&'a [u32]>,
 }
 
-impl<'a> Lent<'a> {
-    fn new(board: Board<'a>, random: &mut Random) -> Lent<'a> {
+impl<'a> GuardedRoll<'a> {
+    fn new(board: Board<'a>, random: &mut Random) -> GuardedRoll<'a> {
         let guard = guard_pair(board);
         let guarded = [&guard, board.roll, &guard].concat();
         let inside = if random.chance(50) { find(board.words, board.roll) } else { None };
-        Lent { before: guarded.clone(), guarded, inside }
+        GuardedRoll { before: guarded.clone(), guarded, inside }
     }
 
     fn pointer(&self) -> *const u32 {
@@ -362,8 +361,9 @@ impl<'a> Lent<'a> {
     }
 }
 
-/// A session's voter and weight, of one that is not on the roll if there is such a session: to read them would
-/// let it pass. Else to read them would make the roll bad.
+/// The voter and weight of a session that is not on the roll: a search that reads them lets it pass. Where every
+/// session is on the roll, the last one's: with them the roll is bad. Zeros where there is no session: they may
+/// change nothing.
 fn guard_pair(board: Board) -> [u32; ROLL_ROW] {
     let is_session = |&place: &usize| board.words[place] == head(MAIN, SESSION, 19) && place + 2 < board.words.len();
     let mut sessions = places(board.words).filter(is_session).map(|p| [board.words[p + 1], board.words[p + 2]]);

@@ -80,7 +80,8 @@ pub fn damage_plan(plan: &mut Plan, random: &mut Random) {
     }
 }
 
-/// A change to a roll: a pair gone, two in each other's place, another weight or number; or as of any words.
+/// A change to a roll: a pair gone, the first moved to the end, two voter numbers exchanged, another weight or
+/// number, the last word gone; a roll without a pair gets some other words.
 pub fn damage_roll(roll: &mut Vec<u32>, random: &mut Random) {
     let pairs = roll.len() / ROLL_ROW;
     if pairs == 0 {

@@ -5,12 +5,7 @@ use std::collections::HashMap;
 
 /// Each session has the voter and the weight of a pair of the roll.
 pub fn each_session_is_on_the_roll(told: &Told) -> Result<(), String> {
-    match told.sessions.iter().find(|session| !told.roll.contains(session)) {
-        Some(Pair { voter, weight }) => {
-            Err(format!("there is a session of voter {voter} with weight {weight}, and no such pair of the roll"))
-        }
-        None => Ok(()),
-    }
+    each_is_on_the_roll("session", &told.sessions, &told.roll)
 }
 
 /// All sessions of a voter have one weight.
@@ -27,9 +22,13 @@ pub fn each_voter_has_one_weight(told: &Told) -> Result<(), String> {
 
 /// Each ballot row has the voter and the weight of a pair of the roll.
 pub fn each_row_is_on_the_roll(told: &Told) -> Result<(), String> {
-    match told.rows.iter().find(|row| !told.roll.contains(row)) {
+    each_is_on_the_roll("ballot row", &told.rows, &told.roll)
+}
+
+fn each_is_on_the_roll(what: &str, pairs: &[Pair], roll: &[Pair]) -> Result<(), String> {
+    match pairs.iter().find(|pair| !roll.contains(pair)) {
         Some(Pair { voter, weight }) => {
-            Err(format!("there is a ballot row of voter {voter} with weight {weight}, and no such pair of the roll"))
+            Err(format!("there is a {what} of voter {voter} with weight {weight}, and no such pair of the roll"))
         }
         None => Ok(()),
     }

@@ -219,16 +219,18 @@ pub const ROLLS_WANTED: [(&str, ShowsRoll); 28] = [
     ("a voter at the first place", |r| r.accepted() && r.pairs() > 2 && r.is_used(0)),
     ("a voter at a middle place", |r| r.accepted() && (1..r.pairs().saturating_sub(1)).any(|at| r.is_used(at))),
     ("a voter at the last place", |r| r.accepted() && r.pairs() > 2 && r.is_used(r.pairs() - 1)),
-    ("voters at both ends of 2,048 pairs", |r| r.accepted() && r.is_full() && r.is_used(0) && r.is_used(2_047)),
+    ("voters at both ends of 2,048 pairs", |r| {
+        r.accepted() && r.is_full() && r.is_used(0) && r.is_used(MAX_VOTERS - 1)
+    }),
     ("a session of voter 0", |r| r.accepted() && r.sessions.iter().any(|s| s.voter == 0)),
     ("a session of voter 4,294,967,295", |r| r.accepted() && r.sessions.iter().any(|s| s.voter == u32::MAX)),
     ("several sessions of a voter", |r| r.accepted() && r.sessions.iter().any(|s| r.of_voter(s.voter) > 1)),
     ("a pair of weight 0", |r| r.accepted() && r.any_pair(|_, weight| weight == 0)),
     ("weights that fall", |r| r.accepted() && r.pairs() > 3 && r.neighbours().all(|[a, b]| r.weight(a) > r.weight(b))),
     ("20: one word", |r| r.number == 20 && r.words.len() == 1),
-    ("20: an odd number of words", |r| r.number == 20 && r.words.len() % 2 == 1 && r.words.len() > 2),
-    ("20: 4,097 words", |r| r.number == 20 && r.words.len() == 4_097),
-    ("20: 2,049 pairs that rise", |r| r.number == 20 && r.words.len() == 4_098 && r.rises()),
+    ("20: an odd number of words", |r| r.number == 20 && r.words.len() % ROLL_ROW == 1 && r.words.len() > ROLL_ROW),
+    ("20: 4,097 words", |r| r.number == 20 && r.words.len() == ROLL_MOST + 1),
+    ("20: 2,049 pairs that rise", |r| r.number == 20 && r.words.len() == ROLL_MOST + ROLL_ROW && r.rises()),
     ("20: equal neighbours", |r| r.is_uneven(|a, b| a == b)),
     ("20: falling neighbours", |r| r.is_uneven(|a, b| a > b)),
     ("20: a blank board", |r| r.number == 20 && r.blank),
@@ -251,7 +253,7 @@ impl Roll {
         let session = |place: usize| Session {
             voter: words[place + 1],
             weight: words[place + 2],
-            place: roll.chunks_exact(2).position(|pair| pair[0] == words[place + 1]),
+            place: roll.chunks_exact(ROLL_ROW).position(|pair| pair[roll_row::VOTER] == words[place + 1]),
         };
         // Of other boards some other word may look like a session.
         let sessions = match number {
@@ -266,16 +268,16 @@ impl Roll {
         self.number == 0
     }
     fn pairs(&self) -> usize {
-        self.words.len() / 2
+        self.words.len() / ROLL_ROW
     }
     fn is_full(&self) -> bool {
-        self.pairs() == 2_048
+        self.pairs() == MAX_VOTERS
     }
     fn voter(&self, place: usize) -> u32 {
-        self.words[2 * place]
+        self.words[ROLL_ROW * place + roll_row::VOTER]
     }
     fn weight(&self, place: usize) -> u32 {
-        self.words[2 * place + 1]
+        self.words[ROLL_ROW * place + roll_row::WEIGHT]
     }
     fn is_used(&self, place: usize) -> bool {
         self.sessions.iter().any(|s| s.place == Some(place))
@@ -298,7 +300,7 @@ impl Roll {
 
     /// Whether it is bad for two neighbours alone.
     fn is_uneven(&self, are: fn(u32, u32) -> bool) -> bool {
-        let may_be_good = self.words.len() % 2 == 0 && self.pairs() <= 2_048;
+        let may_be_good = self.words.len() % ROLL_ROW == 0 && self.pairs() <= MAX_VOTERS;
         let uneven = || self.neighbours().any(|[a, b]| are(self.voter(a), self.voter(b)));
         self.number == 20 && may_be_good && uneven()
     }

@@ -108,8 +108,9 @@ fn row(items: usize, laid: &Laid, own_roll: &[u32]) -> bool {
     let start = Instant::now();
     let mut rounds = 0;
     let over_own = |full: f64, own: f64| items == MAX_ITEMS && full > BAR_TO_OWN_ROLL * own;
-    // In turns, so that what else the machine does falls on all alike. Where the full roll seems to cost more than its bar, the row is run on:
-    // both times are small beside what a busy machine takes off them.
+    // In turns, so that what else the machine does falls on all alike.
+    // Where the full roll seems to cost more than its bar, the row is run on: both times are small beside what
+    // a busy machine takes off them.
     let seconds = |full, own| if library().is_some() && over_own(full, own) { 20.0 } else { 2.0 };
     while rounds < 20 || (start.elapsed().as_secs_f64() < seconds(by_library, with_own) && rounds < 5_000) {
         rounds += 1;

@@ -64,6 +64,11 @@ fn main() {
     plan.remove(spoil, 0);
     write(folder, "opening-before-spoil", &plan.lay(sha256));
 
+    write_about_roll(folder, &made);
+}
+
+/// Writes the samples with a bad roll, or with a session that is not on it.
+fn write_about_roll(folder: &Path, made: &Made) {
     // The voter of the last counted ballot is not on the roll.
     let voter = made.expected.ballots.last().expect("a counted ballot")[1];
     let mut plan = made.plan.clone();
@@ -74,7 +79,7 @@ fn main() {
 
     // The same voter has a session with one vote more than the roll gives.
     let mut plan = made.plan.clone();
-    let session = position(&made, |i| made.plan.items[i].code == SESSION && made.plan.items[i].content[0] == voter);
+    let session = position(made, |i| made.plan.items[i].code == SESSION && made.plan.items[i].content[0] == voter);
     plan.items[session].content[1] += 1;
     write(folder, "other-weight", &plan.lay(sha256));
 
