@@ -11,7 +11,7 @@ use lib.ListN.{length, length-append}
 use lib.Dec.{T, eqb, eqb→eq, eqb-refl}
 use borrow.Author.Tests.{eqb-true, eqb-false, eq-eqb, ne-eqb, not-false}
 use Rattle.model.specs.Lists.{if_then_else_, any}
-use Rattle.model.specs.Words.{codeOf}
+use Rattle.model.specs.Words.{codeOf, between}
 use Rattle.model.specs.Codes.{ballotType}
 use Rattle.model.specs.Format.{Format}
 use Rattle.model.specs.Item.{Item, code}
@@ -83,7 +83,7 @@ module _ {f : Format} {on : Eligibility} {ws vs : List ℕ} {h : History} (b : P
       rw up at (fine-at (orderly b) c o l .parent-typed castOrSpoil ballotType tt kind)
 
   -- and is what closed it
-  pub closer-of : (c : ℕ) → 1 ≤ c → c ≤ length h → T (castOrSpoil (code (itemNo h c))) → closer h (entry h c .parent) ≡ c
+  pub closer-of : (c : ℕ) → 1 ≤ c → c ≤ length h → T (between 20 21 (code (itemNo h c))) → closer h (entry h c .parent) ≡ c
   unfolding closer entry if_then_else_
   closer-of zero o l t = absurd (not-suc-le-zero o)
   closer-of (suc c) o l t =

@@ -7,7 +7,7 @@ use mathlib.Core.Path.{_≡_, refl, sym, ap, _∙_}
 use mathlib.Core.Logic.{_≢_, _⊎_, ⊎-elim, by-cases}
 use mathlib.Core.Bool.{true, not}
 use mathlib.Core.Option.{Option, none, some}
-use mathlib.Core.List.{List, [], _∷_, append-nil}
+use mathlib.Core.List.{List, [], _∷_, _++_, append-nil}
 use lib.ListN.{length, getD, take, length-append, length-take}
 use lib.Seq.{take-all}
 use lib.Dec.{T, eqb, eqb→eq, leb, ltb}
@@ -22,7 +22,7 @@ use Rattle.model.specs.History.{History, main}
 use Rattle.model.specs.Counted.{counted, totalWeight}
 use Rattle.model.specs.Roll.{Eligibility, electors, rising, isBadRoll, onRoll}
 use Rattle.model.specs.Audit.{Outcome, accepted, faultIn, fault, closing, judged, wordAt, items, audit, itemLimit, indexNeed, ballotNeed, isTooLarge}
-use Rattle.model.specs.Report.{ballotRows}
+use Rattle.model.specs.Report.{reportOf, ballotRows}
 use Rattle.model.specs.Sound.{Passed, next, Sound}
 use Rattle.model.specs.Program.{fromBytes, bytesPerWord, programLimit, leastItem, programItems, verdictLimit, rollKept, areWhole, sizeFault, sized, programOutcome, filesOutcome, digits, spaced, refusedLine, acceptedLine, rowLines, textOf, printed}
 use Rattle.model.proofs.Tests.{tests, by-test, is-true, is-false, by-if, if-yes, if-no, and-iff, not-iff, not-not}
@@ -223,6 +223,12 @@ module _ (f : Format) (board verdicts roll : List ℕ) where
   sound-printed {h} w short sound =
       audited-printed w short
       ∙ ap textOf (accepted↔sound f (fromBytes board) (fromBytes verdicts) (fromBytes roll) indexNeed ballotNeed h .1 (sound, omega arith, omega arith))
+
+-- an accepted board is printed with what is reported of it
+pub accepted-text : (f : Format) (h : History) → let r = reportOf f (accepted h) in
+    textOf (accepted h) ≡ acceptedLine (r .items) (r .mains) (r .ballots) (r .weight) ++ rowLines (ballotRows (counted h))
+unfolding reportOf textOf
+accepted-text f h = refl
 
 -- ---- samples
 
