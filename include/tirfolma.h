@@ -20,12 +20,16 @@ extern "C" {
 
 /* ---- audit */
 
+/* The most words and the most items that a board may have. */
+#define TIRFOLMA_BOARD_WORDS 262144
+#define TIRFOLMA_BOARD_ITEMS 2048
+
 /* Words of the answer. */
 #define TIRFOLMA_AUDIT_WORDS 14
 
-/* Words of an index table for every board: a row for each of 2048 items. */
+/* Words of an index table for every board: a row for each item. */
 #define TIRFOLMA_INDEX_ROW_WORDS 5
-#define TIRFOLMA_INDEX_WORDS (TIRFOLMA_INDEX_ROW_WORDS * 2048)
+#define TIRFOLMA_INDEX_WORDS (TIRFOLMA_INDEX_ROW_WORDS * TIRFOLMA_BOARD_ITEMS)
 
 /* Words of a ballot table for every board: a row for each counted ballot, and no board has more than 408 of those. */
 #define TIRFOLMA_BALLOT_ROW_WORDS 3

@@ -6,6 +6,8 @@ use crate::interface::*;
 
 /// What the header is to define, by #define or in an enum.
 const NAMES: &[(&str, usize)] = &[
+    ("TIRFOLMA_BOARD_WORDS", MAX_WORDS),
+    ("TIRFOLMA_BOARD_ITEMS", MAX_ITEMS),
     ("TIRFOLMA_AUDIT_WORDS", AUDIT_ANSWER),
     ("TIRFOLMA_INDEX_ROW_WORDS", INDEX_ROW),
     ("TIRFOLMA_INDEX_WORDS", INDEX_NEED),
@@ -272,14 +274,14 @@ const MISTAKES: [[&str; 4]; 18] = [
     ],
     [
         "a product has a name that is defined below it",
-        "#define TIRFOLMA_INDEX_ROW_WORDS 5\n#define TIRFOLMA_INDEX_WORDS (TIRFOLMA_INDEX_ROW_WORDS * 2048)\n",
-        "#define TIRFOLMA_INDEX_WORDS (TIRFOLMA_INDEX_ROW_WORDS * 2048)\n#define TIRFOLMA_INDEX_ROW_WORDS 5\n",
-        "the header has '(TIRFOLMA_INDEX_ROW_WORDS * 2048)' for TIRFOLMA_INDEX_WORDS, not 10240",
+        "#define TIRFOLMA_INDEX_ROW_WORDS 5\n#define TIRFOLMA_INDEX_WORDS (TIRFOLMA_INDEX_ROW_WORDS * TIRFOLMA_BOARD_ITEMS)\n",
+        "#define TIRFOLMA_INDEX_WORDS (TIRFOLMA_INDEX_ROW_WORDS * TIRFOLMA_BOARD_ITEMS)\n#define TIRFOLMA_INDEX_ROW_WORDS 5\n",
+        "the header has '(TIRFOLMA_INDEX_ROW_WORDS * TIRFOLMA_BOARD_ITEMS)' for TIRFOLMA_INDEX_WORDS, not 10240",
     ],
     [
         "a product has no parentheses",
-        "(TIRFOLMA_INDEX_ROW_WORDS * 2048)",
-        "TIRFOLMA_INDEX_ROW_WORDS * 2048",
-        "the header has 'TIRFOLMA_INDEX_ROW_WORDS * 2048' for TIRFOLMA_INDEX_WORDS, not 10240",
+        "(TIRFOLMA_INDEX_ROW_WORDS * TIRFOLMA_BOARD_ITEMS)",
+        "TIRFOLMA_INDEX_ROW_WORDS * TIRFOLMA_BOARD_ITEMS",
+        "the header has 'TIRFOLMA_INDEX_ROW_WORDS * TIRFOLMA_BOARD_ITEMS' for TIRFOLMA_INDEX_WORDS, not 10240",
     ],
 ];
