@@ -1,0 +1,228 @@
+//! Refusal 13: the content rules of the types, in the order of the model's `Content`.
+
+use super::fields::*;
+use super::refused::{Numbered, Refused};
+use super::text::{are, count, hex, list, place, start};
+use crate::times::date;
+use crate::types::code::*;
+
+/// As many ballots are listed.
+const LISTED: usize = 8;
+
+/// The greatest numbers, and how many trustees there may be.
+const LAST_CONTEST: u32 = 31;
+const LAST_ROUND: u32 = 15;
+const MOST_TRUSTEES: u32 = 32;
+
+/// The words of a commitment, a cryptogram, and what a trustee has in a confirmation.
+const COMMITMENT: usize = 9;
+const CRYPTOGRAM: usize = 17;
+const SHARE: usize = 16;
+
+pub fn bad(refused: &Refused) -> Option<String> {
+    match refused.code() {
+        CONTEST => bad_contest(refused),
+        THRESHOLD => bad_threshold(refused),
+        AUTHORIZER => bad_mode(refused),
+        ROUND => bad_round(refused),
+        SESSION => bad_session(refused),
+        VOTER_COMMITMENT | SERVER_COMMITMENT => low_bits(refused, COMMITMENT - 1, 24, "its last content word"),
+        BALLOT => bad_ballot(refused),
+        EXTRACTION => Some(bad_fingerprint(refused)),
+        CONFIRMATION => bad_confirmation(refused),
+        _ => None,
+    }
+}
+
+fn word(refused: &Refused, field: usize) -> u32 {
+    refused.item.content()[field]
+}
+
+/// Where a content word stands.
+fn at(refused: &Refused, field: usize) -> String {
+    place(refused.item.content_place() + field)
+}
+
+/// A content word that breaks a rule: its name, value and place, and the rule.
+fn wrong(refused: &Refused, field: usize, name: &str, rule: &str) -> String {
+    format!("has the {name} {} at {}, but {rule}. Look at this word", word(refused, field), at(refused, field))
+}
+
+fn bad_contest(refused: &Refused) -> Option<String> {
+    let is_over = word(refused, contest::NUMBER) > LAST_CONTEST;
+    is_over.then(|| wrong(refused, contest::NUMBER, "contest number", &format!("it must be at most {LAST_CONTEST}")))
+}
+
+fn bad_threshold(refused: &Refused) -> Option<String> {
+    let (trustees, needed) = (word(refused, threshold::TRUSTEES), word(refused, threshold::NEEDED));
+    if needed < 1 {
+        return Some(wrong(refused, threshold::NEEDED, "threshold", "it must be at least 1"));
+    }
+    if needed > trustees {
+        let (verb, most) = (are(trustees.into()), count(trustees.into(), "trustee"));
+        let rule = format!("there {verb} {most} only, by the word before it");
+        return Some(wrong(refused, threshold::NEEDED, "threshold", &rule));
+    }
+    let rule = format!("there may be at most {MOST_TRUSTEES}");
+    (trustees > MOST_TRUSTEES).then(|| wrong(refused, threshold::TRUSTEES, "number of trustees", &rule))
+}
+
+fn bad_mode(refused: &Refused) -> Option<String> {
+    let is_known = matches!(word(refused, authorizer::MODE), 1 | 2);
+    (!is_known).then(|| wrong(refused, authorizer::MODE, "mode", "it must be 1 (identity) or 2 (credential)"))
+}
+
+fn bad_round(refused: &Refused) -> Option<String> {
+    if round_number(&refused.item) > LAST_ROUND {
+        return Some(wrong(refused, round::NUMBER, "round number", &format!("it must be at most {LAST_ROUND}")));
+    }
+    let [starts, ends] = [round::START, round::END].map(|field| time(&refused.item, field));
+    if starts >= ends {
+        let (from, to) = (at(refused, round::START), at(refused, round::END));
+        let times = format!("starts at {} ({from}) and ends at {} ({to})", date(starts), date(ends));
+        return Some(format!("{times}, but its start must be before its end. Look at these words"));
+    }
+    bad_contests(refused, round::CONTESTS)
+}
+
+fn bad_session(refused: &Refused) -> Option<String> {
+    if word(refused, session::WEIGHT) < 1 {
+        return Some(wrong(refused, session::WEIGHT, "weight", "it must be at least 1"));
+    }
+    bad_contests(refused, session::CONTESTS)
+}
+
+/// A set of contests that must not be empty, each defined before.
+fn bad_contests(refused: &Refused, field: usize) -> Option<String> {
+    let (set, at) = (word(refused, field), at(refused, field));
+    if set == 0 {
+        return Some(format!("has no contests: its set of contests, at {at}, is empty. Look at this word"));
+    }
+    let defines = |earlier: &Numbered, contest: u32| {
+        earlier.item.code() == CONTEST && earlier.item.content()[contest::NUMBER] == contest
+    };
+    let undefined = members(set).find(|&contest| !refused.earlier().any(|earlier| defines(&earlier, contest)))?;
+    Some(format!(
+        "has contest {undefined} in its set of contests, {} at {at}, which no contest item before it defines. \
+         Look at this word, and at the contests",
+        hex(set)
+    ))
+}
+
+/// A word whose low bits must be zero.
+fn low_bits(refused: &Refused, field: usize, bits: u32, name: &str) -> Option<String> {
+    let word = word(refused, field);
+    let is_wrong = word & ((1 << bits) - 1) != 0;
+    is_wrong.then(|| {
+        let at = at(refused, field);
+        format!(
+            "has {} as {name}, at {at}, but the low {bits} bits of that word must be zero. Look at this word",
+            hex(word)
+        )
+    })
+}
+
+/// A set in the first content word, and a part for each member behind it.
+fn parts(refused: &Refused, member: &str, part: &str, size: usize) -> Option<String> {
+    let set = word(refused, SET);
+    let (members, parts) = (set.count_ones(), (refused.item.content().len() - 1) / size);
+    (parts != members as usize).then(|| {
+        format!(
+            "has {} in its set, {} at {}, but {}. Look at the set, and at the number of content words",
+            count(members.into(), member),
+            hex(set),
+            at(refused, SET),
+            count(parts as u64, part)
+        )
+    })
+}
+
+fn bad_ballot(refused: &Refused) -> Option<String> {
+    parts(refused, "contest", "cryptogram", CRYPTOGRAM)
+        .or_else(|| members(word(refused, SET)).find_map(|contest| may_not_vote(refused, contest)))
+        .or_else(|| {
+            let count = word(refused, SET).count_ones() as usize;
+            (1..=count).find_map(|k| low_bits(refused, k * CRYPTOGRAM, 16, &format!("the last word of cryptogram {k}")))
+        })
+}
+
+/// A contest that is not in the session's set, or that no open round enables.
+fn may_not_vote(refused: &Refused, contest: u32) -> Option<String> {
+    let has = |set: u32| set >> contest & 1 == 1;
+    let session = refused.session()?;
+    let given =
+        format!("has contest {contest} in its set of contests, {} at {}", hex(word(refused, SET)), at(refused, SET));
+    if !has(session.item.content()[session::CONTESTS]) {
+        return Some(format!(
+            "{given}, but its session, item {}, does not have that contest. Look at both sets",
+            session.number
+        ));
+    }
+    let now = refused.item.time();
+    let enables = |round: &Numbered| is_open(&round.item, now) && has(round.item.content()[round::CONTESTS]);
+    let is_enabled = rounds(refused).iter().any(enables);
+    (!is_enabled).then(|| {
+        format!(
+            "{given}, but no round that is open at its time, {}, enables that contest. Look at the sets of the rounds",
+            date(now)
+        )
+    })
+}
+
+/// The eight words are not the hash. That is the library's word: there is no hash here.
+fn bad_fingerprint(refused: &Refused) -> String {
+    let given = format!(
+        "has a fingerprint, {} at {}, that is not the SHA-256 of",
+        start(refused.item.content()),
+        at(refused, 0)
+    );
+    let ballots: Vec<String> = counted(refused).iter().map(usize::to_string).collect();
+    let (what, look) = match ballots.as_slice() {
+        [] => ("the empty message, though no ballot is counted".to_string(), "whether casts are missing"),
+        [only] => (format!("the content of the only counted ballot, item {only}"), "which ballot it was made of"),
+        _ => {
+            let listed = list(&ballots, LISTED);
+            let what = format!(
+                "the contents of the {} counted ballots, in the order of their casts: items {listed}",
+                ballots.len()
+            );
+            (what, "which ballots it was made of")
+        }
+    };
+    format!("{given} {what}. Look at {look}")
+}
+
+/// The item numbers of the counted ballots: of each voter the one under the last cast, in the order of those casts.
+fn counted(refused: &Refused) -> Vec<usize> {
+    let mut counted: Vec<(u32, usize)> = Vec::new();
+    for cast in refused.earlier().filter(|earlier| earlier.item.code() == CAST) {
+        let Some(session) = refused.passed.session(cast.number) else { continue };
+        let voter = refused.passed.item(session).content()[session::VOTER];
+        counted.retain(|&(other, _)| other != voter);
+        counted.push((voter, refused.passed.parent(cast.number)));
+    }
+    counted.into_iter().map(|(_, ballot)| ballot).collect()
+}
+
+fn bad_confirmation(refused: &Refused) -> Option<String> {
+    parts(refused, "trustee", "trustee share", SHARE).or_else(|| trustees(refused))
+}
+
+/// Numbers below that of trustees, and as many of them as are needed.
+fn trustees(refused: &Refused) -> Option<String> {
+    let threshold = refused.first(THRESHOLD)?;
+    let [most, needed] = [threshold::TRUSTEES, threshold::NEEDED].map(|field| threshold.item.content()[field]);
+    let set = word(refused, SET);
+    let given = format!("in its set, {} at {}", hex(set), at(refused, SET));
+    if let Some(over) = members(set).find(|&trustee| trustee >= most) {
+        let rule = format!("by the threshold, item {}, numbers are below {most}", threshold.number);
+        return Some(format!("has trustee {over} {given}, but {rule}. Look at this word"));
+    }
+    let has = count(set.count_ones().into(), "trustee");
+    (set.count_ones() < needed).then(|| {
+        format!(
+            "has {has} {given}, but {needed} are needed by the threshold, item {}. Look at this word",
+            threshold.number
+        )
+    })
+}

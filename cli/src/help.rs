@@ -1,0 +1,301 @@
+//! What the program says of itself. --help, the manual page and the completion for bash are made from this one text, and the command line
+//! is read by it (args.rs).
+
+use crate::args::Call;
+use crate::explain::refusals;
+use crate::output::Status;
+
+pub struct Opt {
+    pub flag: &'static str,
+    /// What follows the flag, if anything does.
+    pub value: Option<&'static str>,
+    pub text: &'static str,
+}
+
+pub struct Command {
+    pub name: &'static str,
+    pub run: fn(&Call) -> Result<Status, String>,
+    pub operands: &'static str,
+    /// The least and the most operands.
+    pub takes: (usize, usize),
+    /// In one line.
+    pub about: &'static str,
+    pub text: &'static [&'static str],
+    pub options: &'static [Opt],
+    /// The keys of the object that --json prints.
+    pub keys: &'static [(&'static str, &'static str)],
+}
+
+const JSON: Opt =
+    Opt { flag: "--json", value: None, text: "Print a JSON object in place of lines; its keys are below." };
+const HELP: Opt = Opt { flag: "--help", value: None, text: "Print this text; so does -h." };
+
+pub const PURPOSE: &str = "audit the bulletin boards of elections";
+
+pub const INTRODUCTION: &[&str] = &[
+    "tirfolma reads boards from files, has the proved library audit them, and prints what it says. Whether a board is sound the library alone decides: it is proved to accept a board if and only if the board meets the published rules.",
+    "DIR is a folder with board.words, verdicts.words and roll.words: 32-bit words, four bytes each, high byte first. All three must be there; a file may be empty. A byte count that is no multiple of 4 is refused as 4 at 0. A board may have 262144 words and 2048 items, a roll 2048 voters; what is more is refused as 1 or 20. Behind the word -- a name may begin with a dash.",
+];
+
+pub const COMMANDS: &[Command] = &[
+    Command {
+        name: "audit",
+        run: crate::audit::run,
+        operands: "DIR...",
+        takes: (1, usize::MAX),
+        about: "audit boards, a line for each",
+        text: &[
+            "Prints a line for each folder: its name, a tab, and what the auditor prints first. That is 'accepted' with the numbers of items, main items and counted ballots and their total weight, or 'refused N at K': refusal N, of those below, after K items that pass. A folder that can't be read is 'not audited', and why is said on standard error.",
+            "A DIR that has none of the three files stands for all folders in it, in the order of their names' bytes. A DIR that has one of them is a board, whatever folders it has. Boards are audited on all processors at once; the lines keep the order.",
+            "In a name, a backslash is printed as \\\\, a line feed as \\n, a tab as \\t, and other bytes that are no plain text by their numbers, as \\x1b.",
+        ],
+        options: &[
+            Opt { flag: "--rows", value: None, text: "Add the ballot rows of an accepted board, a line each: main number of the ballot, voter, weight." },
+            Opt {
+                flag: "--explain",
+                value: None,
+                text: "Say in words what is wrong with a refused board, which item it is and where it stands. This is told from the words and tables after the audit: no answer depends on it.",
+            },
+            Opt { flag: "--summary", value: None, text: "Add a last line that counts the boards, those accepted, refused and not audited." },
+            Opt { flag: "--jobs", value: Some("N"), text: "Audit N boards at once (default: as many as there are processors)." },
+            JSON,
+            HELP,
+        ],
+        keys: &[
+            ("folder", "the folder's name; what is not UTF-8 in it is U+FFFD"),
+            ("folder_hex", "only where the name is not UTF-8: its bytes, in hexadecimal"),
+            ("answer", "\"accepted\", \"refused\" or \"not audited\""),
+            ("items, mains, ballots, weight", "of an accepted board: items, main items, counted ballots, their total weight"),
+            ("end", "of an accepted board: the address of the last main item, 64 hexadecimal digits"),
+            ("rows", "with --rows, of an accepted board: an array of objects with the keys ballot (main number), voter and weight"),
+            ("number, passed", "of a refused board: the refusal, and how many items pass"),
+            ("explanation", "with --explain, of a refused board: what is wrong, in words; no answer depends on it"),
+            ("error", "of a folder that was not audited: why"),
+            ("boards, accepted, refused, not_audited", "with --summary, in a last object: how many"),
+        ],
+    },
+    Command {
+        name: "compare",
+        run: crate::compare::run,
+        operands: "KEPT LATER [MAIN]",
+        takes: (2, 3),
+        about: "compare a board that was kept with a later one",
+        text: &[
+            "Audits the board in the folder KEPT, then that in LATER, and compares all main items of the kept board with those of the later one up to its main item MAIN; by default the kept board's number of main items.",
+            "Prints 'same' if these main items are the same; 'apart' if the kept board's end address does not stand at that item; 'collision A B' if main item A of the kept board and B of the later one have one address and different words; or 'kept refused N at K' or 'later refused N at K'. 'later refused 19' says that the later board has no main item MAIN.",
+        ],
+        options: &[JSON, HELP],
+        keys: &[
+            ("answer", "\"same\", \"apart\", \"collision\" or \"refused\""),
+            ("main", "MAIN, or the number that stood in for it; not there where the kept board was refused before it was known"),
+            ("kept_main, later_main", "of a collision: the main numbers of the two items"),
+            ("board, number, passed", "of a refusal: \"kept\" or \"later\", the refusal, and how many items pass"),
+        ],
+    },
+    Command {
+        name: "ancestry",
+        run: crate::ancestry::run,
+        operands: "DIR ITEM",
+        takes: (2, 2),
+        about: "list an item, its parent, and so on up to genesis",
+        text: &[
+            "Audits the board and prints a line for item ITEM, one for its parent, and so on up to genesis: item number, type and time. Items count from 1 in the order of the file, those of hidden tracks too. Of a refused board it prints 'refused N at K'; 19 says that the board has no such item.",
+        ],
+        options: &[JSON, HELP],
+        keys: &[
+            ("answer", "\"listed\" or \"refused\""),
+            ("list", "if listed: an array of objects with the keys item, code, type, time (milliseconds) and date"),
+            ("number, passed", "if refused: the refusal, and how many items pass"),
+        ],
+    },
+    Command {
+        name: "show",
+        run: crate::show::run,
+        operands: "DIR",
+        takes: (1, 1),
+        about: "show a board as a person reads it",
+        text: &[
+            "Prints the auditor's answer and a line for each item: its number, main number, kind, type, time, the item numbers of its parent and its session, and for a ballot what closed it. Of a refused board, the item at which it is refused is marked by >, and what is wrong is said in words, as by audit --explain: no answer depends on it. Items after it were not audited: they are marked by ? and shown as far as their heads can be read. A - stands for what an item does not have, a ? for what the audit has not told of it.",
+        ],
+        options: &[JSON, HELP],
+        keys: &[
+            ("folder, folder_hex, answer, number, explanation", "as for audit, the explanation always"),
+            ("passed", "how many items pass; of an accepted board all"),
+            ("list", "an array of objects with the keys item, main, kind, code, type, place (of the head, in words from 0), time (milliseconds), date, parent, session, closed_by, and state: \"passed\", \"refused\" or \"not audited\". null is what an item does not have, and of an item that did not pass what the audit has not told"),
+        ],
+    },
+];
+
+pub const EXIT: &[(&str, &str)] = &[
+    ("0", "Every board is accepted; for compare: same; for ancestry: listed."),
+    ("1", "A board is refused; for compare also: apart, or a collision."),
+    ("2", "Something could not be read or written, or the call was wrong; then there may also be boards that are refused."),
+];
+
+pub const EXAMPLES: &[(&str, &str)] = &[
+    ("tirfolma audit boards", "Audits all folders in boards."),
+    ("tirfolma audit --explain boards/0417", "Says in words what is wrong with a board."),
+    ("tirfolma compare noon/0417 night/0417", "Holds the board of the night to the one that was kept at noon."),
+    ("tirfolma audit --json boards | grep '\"answer\":\"refused\"'", "The refused boards, an object to a line."),
+];
+
+pub fn command(name: &str) -> Option<&'static Command> {
+    COMMANDS.iter().find(|command| command.name == name)
+}
+
+/// With the commit from which it was built and the id of the kit that proved the library.
+pub fn version() -> String {
+    format!(
+        "tirfolma {}\ncommit {}\nproved by {}\n",
+        env!("CARGO_PKG_VERSION"),
+        env!("TIRFOLMA_COMMIT"),
+        env!("TIRFOLMA_KIT")
+    )
+}
+
+// ---- plain text ----
+
+const WIDTH: usize = 80;
+/// Before the text of a term.
+const INDENT: usize = 6;
+
+/// Words, broken into lines of at most WIDTH characters, each behind some spaces.
+pub fn wrapped(text: &str, indent: usize) -> String {
+    let mut out = String::new();
+    let mut column = 0;
+    for word in text.split(' ') {
+        let length = word.chars().count();
+        if column > 0 && column + 1 + length > WIDTH {
+            out.push('\n');
+            column = 0;
+        }
+        if column == 0 {
+            out += &" ".repeat(indent);
+            column = indent;
+        } else {
+            out.push(' ');
+            column += 1;
+        }
+        out += word;
+        column += length;
+    }
+    out.push('\n');
+    out
+}
+
+fn terms<'a>(title: &str, terms: impl IntoIterator<Item = (String, &'a str)>) -> String {
+    let mut out = format!("\n{title}:\n");
+    for (term, text) in terms {
+        let text = wrapped(text, INDENT);
+        // A short term stands before its text.
+        match text.get(INDENT..).filter(|_| term.len() < INDENT - 3) {
+            Some(rest) => out += &format!("  {term:width$}{rest}", width = INDENT - 2),
+            None => out += &format!("  {term}\n{text}"),
+        }
+    }
+    out
+}
+
+fn flag(option: &Opt) -> String {
+    option.value.map_or(option.flag.to_string(), |value| format!("{} {value}", option.flag))
+}
+
+/// What --help prints for the program.
+pub fn overview() -> String {
+    let mut out = format!("tirfolma: {PURPOSE}\n\n");
+    for command in COMMANDS {
+        out += &format!("  tirfolma {} {}\n      {}\n", command.name, command.operands, command.about);
+    }
+    for text in INTRODUCTION {
+        out += &format!("\n{}", wrapped(text, 0));
+    }
+    out += "\n'tirfolma COMMAND --help' says more of a command; 'tirfolma --version' from what\nthis program was built; 'tirfolma --man' and 'tirfolma --completion' print its\nmanual page and its completion for bash.\n";
+    out + &exit_text() + &terms("Examples", EXAMPLES.iter().map(|&(term, text)| (term.to_string(), text)))
+}
+
+/// What --help prints for a command.
+pub fn detail(command: &Command) -> String {
+    let mut out = format!("tirfolma {} [OPTION]... {}\n{}\n", command.name, command.operands, command.about);
+    for text in command.text {
+        out += &format!("\n{}", wrapped(text, 0));
+    }
+    out += &terms("Options", command.options.iter().map(|option| (flag(option), option.text)));
+    out += &exit_text();
+    if command.name == "audit" {
+        out += &terms("Refusals", refusal_terms());
+    }
+    out + &terms("Keys of --json", command.keys.iter().map(|&(term, text)| (term.to_string(), text)))
+}
+
+/// The refusals by number, where they are the answer that is printed.
+fn refusal_terms() -> impl Iterator<Item = (String, &'static str)> {
+    refusals().map(|(number, wrong)| (number.to_string(), wrong))
+}
+
+fn exit_text() -> String {
+    terms("Exit status", EXIT.iter().map(|&(term, text)| (term.to_string(), text)))
+}
+
+// ---- the manual page ----
+
+/// Text for roff: what would be read as a request or an escape is not.
+fn roff(text: &str) -> String {
+    let text = text.replace('\\', "\\e").replace('-', "\\-").replace('\'', "\\(aq");
+    if text.starts_with('.') {
+        format!("\\&{text}")
+    } else {
+        text
+    }
+}
+
+fn roff_terms<'a>(terms: impl IntoIterator<Item = (String, &'a str)>) -> String {
+    terms.into_iter().map(|(term, text)| format!(".TP\n\\fB{}\\fR\n{}\n", roff(&term), roff(text))).collect()
+}
+
+pub fn manual() -> String {
+    let mut out = format!(".TH TIRFOLMA 1 \"\" \"tirfolma {}\"\n.SH NAME\n", env!("CARGO_PKG_VERSION"));
+    out += &format!("tirfolma \\- {PURPOSE}\n.SH SYNOPSIS\n.nf\n");
+    for command in COMMANDS {
+        out += &format!("\\fBtirfolma {}\\fR [OPTION]... {}\n", command.name, roff(command.operands));
+    }
+    out += "\\fBtirfolma\\fR \\-\\-help | \\-\\-version | \\-\\-man | \\-\\-completion\n.fi\n.SH DESCRIPTION\n";
+    for text in INTRODUCTION {
+        out += &format!("{}\n.PP\n", roff(text));
+    }
+    for command in COMMANDS {
+        out += &format!(".SH TIRFOLMA {}\n{}\n.PP\n", command.name.to_uppercase(), roff(command.about));
+        for text in command.text {
+            out += &format!("{}\n.PP\n", roff(text));
+        }
+        out += &roff_terms(command.options.iter().map(|option| (flag(option), option.text)));
+        out += ".PP\nKeys of \\-\\-json:\n";
+        out += &roff_terms(command.keys.iter().map(|&(term, text)| (term.to_string(), text)));
+    }
+    out += ".SH REFUSALS\n";
+    out += &roff_terms(refusal_terms());
+    out += ".SH EXIT STATUS\n";
+    out += &roff_terms(EXIT.iter().map(|&(term, text)| (term.to_string(), text)));
+    out += ".SH EXAMPLES\n";
+    out + &roff_terms(EXAMPLES.iter().map(|&(term, text)| (term.to_string(), text)))
+}
+
+// ---- completion ----
+
+/// For bash: commands, the options of each, folders.
+pub fn completion() -> String {
+    let names: Vec<&str> = COMMANDS.iter().map(|command| command.name).collect();
+    let mut out = String::from("# Completion of tirfolma for bash. Made by 'tirfolma --completion'.\n_tirfolma() {\n");
+    out += "    local word=${COMP_WORDS[COMP_CWORD]}\n    if ((COMP_CWORD == 1)); then\n";
+    out += &format!(
+        "        mapfile -t COMPREPLY < <(compgen -W '{} --help --version --man --completion' -- \"$word\")\n",
+        names.join(" ")
+    );
+    out += "        return\n    fi\n    local options=\n    case ${COMP_WORDS[1]} in\n";
+    for command in COMMANDS {
+        let flags: Vec<&str> = command.options.iter().map(|option| option.flag).collect();
+        out += &format!("    {}) options='{}' ;;\n", command.name, flags.join(" "));
+    }
+    out += "    esac\n    if [[ $word == -* ]]; then\n        mapfile -t COMPREPLY < <(compgen -W \"$options\" -- \"$word\")\n";
+    out += "    else\n        compopt -o filenames\n        mapfile -t COMPREPLY < <(compgen -d -- \"$word\")\n    fi\n}\n";
+    out + "complete -F _tirfolma tirfolma\n"
+}

@@ -1,0 +1,142 @@
+//! The proved library: its functions, made from include/tirfolma.h (build/header.rs), and their answers as values. Nothing else in this
+//! program decides anything about a board, but for the rule about files (files.rs).
+
+/// What the header says: TIRFOLMA_* as constants, and the functions, over slices.
+pub mod header {
+    include!(concat!(env!("OUT_DIR"), "/header.rs"));
+}
+use header::*;
+
+/// A board, the verdicts on its signatures and the roll of its voters, as words.
+#[derive(Clone, Copy)]
+pub struct Board<'a> {
+    pub words: &'a [u32],
+    pub verdicts: &'a [u32],
+    pub roll: &'a [u32],
+}
+
+/// What an audit fills: the index table and the ballot table, as long as the library needs them.
+pub struct Tables {
+    pub index: Vec<u32>,
+    pub ballots: Vec<u32>,
+}
+
+impl Default for Tables {
+    fn default() -> Self {
+        Tables { index: vec![0; TIRFOLMA_INDEX_WORDS], ballots: vec![0; TIRFOLMA_BALLOT_WORDS] }
+    }
+}
+
+#[derive(Clone, Copy, Debug, PartialEq, Eq)]
+pub enum Answer {
+    Accepted(Report),
+    Refused(Refusal),
+}
+
+#[derive(Clone, Copy, Debug, PartialEq, Eq)]
+pub struct Report {
+    pub items: u32,
+    pub mains: u32,
+    pub ballots: u32,
+    pub weight: u64,
+    /// The address of the last main item.
+    pub end: [u32; 8],
+}
+
+/// A refusal: its number, and the items that passed.
+#[derive(Clone, Copy, Debug, PartialEq, Eq)]
+pub struct Refusal {
+    pub number: u32,
+    pub items: u32,
+}
+
+#[derive(Clone, Copy, Debug, PartialEq, Eq)]
+pub enum Comparison {
+    Same,
+    Apart,
+    /// The main numbers of the two items.
+    Collision {
+        kept: u32,
+        later: u32,
+    },
+    KeptRefused(Refusal),
+    LaterRefused(Refusal),
+}
+
+/// What the functions give where an answer has fewer words than the header says.
+const SHORT: &str = "the answer has its words";
+
+pub fn audit(board: Board, tables: &mut Tables) -> Answer {
+    let mut answer = [0; TIRFOLMA_AUDIT_WORDS];
+    let done =
+        tirfolma_audit(board.words, board.verdicts, board.roll, &mut tables.index, &mut tables.ballots, &mut answer);
+    assert!(done, "{SHORT}");
+    let number = answer[TIRFOLMA_NUMBER];
+    let items = answer[TIRFOLMA_ITEMS];
+    if number != 0 {
+        return Answer::Refused(Refusal { number, items });
+    }
+    let end = std::array::from_fn(|i| answer[TIRFOLMA_END + i]);
+    let weight = u64::from(answer[TIRFOLMA_WEIGHT_HIGH]) << 32 | u64::from(answer[TIRFOLMA_WEIGHT_LOW]);
+    Answer::Accepted(Report { items, mains: answer[TIRFOLMA_MAINS], ballots: answer[TIRFOLMA_BALLOTS], weight, end })
+}
+
+/// `main` is a main number of the later board.
+pub fn compare(
+    kept: Board,
+    later: Board,
+    main: usize,
+    kept_tables: &mut Tables,
+    later_tables: &mut Tables,
+) -> Comparison {
+    let mut answer = [0; TIRFOLMA_COMPARE_WORDS];
+    let done = tirfolma_compare(
+        kept.words,
+        kept.verdicts,
+        kept.roll,
+        later.words,
+        later.verdicts,
+        later.roll,
+        main,
+        &mut kept_tables.index,
+        &mut kept_tables.ballots,
+        &mut later_tables.index,
+        &mut later_tables.ballots,
+        &mut answer,
+    );
+    assert!(done, "{SHORT}");
+    let refusal = Refusal { number: answer[TIRFOLMA_COMPARE_NUMBER], items: answer[TIRFOLMA_COMPARE_ITEMS] };
+    match answer[TIRFOLMA_KIND] as usize {
+        TIRFOLMA_SAME => Comparison::Same,
+        TIRFOLMA_APART => Comparison::Apart,
+        TIRFOLMA_COLLISION => {
+            Comparison::Collision { kept: answer[TIRFOLMA_KEPT_MAIN], later: answer[TIRFOLMA_LATER_MAIN] }
+        }
+        TIRFOLMA_REFUSED if answer[TIRFOLMA_BOARD] == 0 => Comparison::KeptRefused(refusal),
+        TIRFOLMA_REFUSED => Comparison::LaterRefused(refusal),
+        kind => unreachable!("the library gives no kind {kind}"),
+    }
+}
+
+/// The numbers of an item, of its parent and so on, up to genesis.
+pub fn ancestry(board: Board, item: usize, tables: &mut Tables) -> Result<Vec<u32>, Refusal> {
+    let mut answer = [0; TIRFOLMA_ANCESTRY_WORDS];
+    let mut list = vec![0; TIRFOLMA_LIST_WORDS];
+    let done = tirfolma_ancestry(
+        board.words,
+        board.verdicts,
+        board.roll,
+        item,
+        &mut tables.index,
+        &mut tables.ballots,
+        &mut list,
+        &mut answer,
+    );
+    assert!(done, "{SHORT}");
+    let (number, count) = (answer[TIRFOLMA_ANCESTRY_NUMBER], answer[TIRFOLMA_ANCESTRY_COUNT]);
+    if number != 0 {
+        return Err(Refusal { number, items: count });
+    }
+    list.truncate(count as usize);
+    Ok(list)
+}
