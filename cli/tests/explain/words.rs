@@ -1,0 +1,81 @@
+//! A board's words as items, read by this test for itself.
+
+use reference::format::*;
+
+/// Where the fields stand behind the content: parent (8 words), previous (8), time (2), signature (16), address (8).
+pub const PARENT: usize = 0;
+pub const PREVIOUS: usize = PARENT + 8;
+pub const TIME: usize = PREVIOUS + 8;
+pub const SIGNATURE: usize = TIME + 2;
+pub const ADDRESS: usize = SIGNATURE + 16;
+
+pub struct Item {
+    pub number: usize,
+    pub place: usize,
+    pub code: u32,
+    pub content: Vec<u32>,
+    pub parent: [u32; 8],
+    pub previous: [u32; 8],
+    pub time: u64,
+    pub address: [u32; 8],
+}
+
+impl Item {
+    pub fn is_hidden(&self) -> bool {
+        self.code >= TRACK
+    }
+    /// The place of a content word.
+    pub fn content_place(&self, field: usize) -> usize {
+        self.place + 1 + field
+    }
+    /// The place of a field behind the content.
+    pub fn behind_content(&self, field: usize) -> usize {
+        self.place + 1 + self.content.len() + field
+    }
+}
+
+/// The items by their heads, as far as they are whole, listed and of a count that fits.
+pub fn items(words: &[u32]) -> Vec<Item> {
+    let mut found = Vec::new();
+    let mut place = 0;
+    while let Some(&head) = words.get(place) {
+        let (code, n) = (code(head), count(head));
+        let is_listed = kind_of(code) == Some(kind(head)) && count_fits(code, n);
+        if !is_listed || place + n + FRAME > words.len() {
+            break;
+        }
+        let behind = &words[place + 1 + n..];
+        found.push(Item {
+            number: found.len() + 1,
+            place,
+            code,
+            content: words[place + 1..place + 1 + n].to_vec(),
+            parent: eight(behind, PARENT),
+            previous: eight(behind, PREVIOUS),
+            time: time(behind, TIME),
+            address: eight(behind, ADDRESS),
+        });
+        place += n + FRAME;
+    }
+    found
+}
+
+/// The place behind so many items, by their counts alone.
+pub fn place_behind(words: &[u32], items: usize) -> Option<usize> {
+    let mut place = 0;
+    for _ in 0..items {
+        place += count(*words.get(place)?) + FRAME;
+    }
+    Some(place)
+}
+
+/// The number behind a phrase of a text.
+pub fn number_behind(text: &str, phrase: &str) -> Option<usize> {
+    number_at(&text[text.find(phrase)? + phrase.len()..])
+}
+
+/// The number that a text begins with.
+pub fn number_at(text: &str) -> Option<usize> {
+    let digits: String = text.chars().take_while(char::is_ascii_digit).collect();
+    digits.parse().ok()
+}

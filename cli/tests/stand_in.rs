@@ -1,0 +1,168 @@
+//! The program over a stand-in for the library (stand_in.c), which answers what it is told: each answer must be printed as it is, also those
+//! that no board will give, as a collision; and each buffer must be given in its place.
+
+mod common;
+
+use common::json::objects;
+use common::*;
+use std::fs;
+use std::path::PathBuf;
+use std::process::Command;
+use std::sync::OnceLock;
+
+/// The program, built once for all tests over the stand-in.
+fn program() -> &'static PathBuf {
+    static BUILT: OnceLock<PathBuf> = OnceLock::new();
+    BUILT.get_or_init(|| {
+        let cli = PathBuf::from(env!("CARGO_MANIFEST_DIR"));
+        let made = PathBuf::from(env!("CARGO_TARGET_TMPDIR")).join("stand-in");
+        fs::create_dir_all(&made).expect("made");
+        let script = "cc -std=c11 -Wall -Wextra -Werror -O1 -I \"$1\" -c \"$2\" -o \"$3/stand_in.o\" && rm -f \"$3/libstandin.a\" && ar rc \"$3/libstandin.a\" \"$3/stand_in.o\"";
+        let ran = run(shell(script, [root().join("include"), cli.join("tests/stand_in.c"), made.clone()]));
+        assert_eq!((ran.status, ran.errors()), (0, ""));
+        let mut cargo = Command::new(env!("CARGO"));
+        cargo.args(["build", "--quiet", "--offline", "--locked", "--bin", "tirfolma", "--manifest-path"]);
+        cargo.arg(cli.join("Cargo.toml")).arg("--target-dir").arg(&made).env("TIRFOLMA_LIB", made.join("libstandin.a"));
+        let ran = run(cargo);
+        assert_eq!(ran.status, 0, "{}", ran.errors());
+        made.join("debug/tirfolma")
+    })
+}
+
+/// What the stand-in shall answer, by the names of its variables.
+type Answers<'a> = &'a [(&'a str, &'a str)];
+
+/// Runs the program with these answers. Gives what it did, and what the stand-in wrote down.
+fn ask(temp: &Temp, answers: Answers, words: &[&str]) -> (Ran, String) {
+    let notes = temp.join("notes");
+    let _ = fs::remove_file(&notes);
+    let mut command = Command::new(program());
+    command.current_dir(temp.path()).args(words).env("STAND_IN_NOTES", &notes).envs(answers.iter().copied());
+    let ran = run(command);
+    (ran, fs::read_to_string(notes).unwrap_or_default())
+}
+
+/// Two folders with files that are all different, in length and first word.
+fn two_boards() -> Temp {
+    let temp = Temp::new("stand-in");
+    let file = |length: u8| [0, 0, 0, 100 + length].repeat(length as usize);
+    temp.board("kept", &[file(1), file(2), file(3)]);
+    temp.board("later", &[file(4), file(5), file(6)]);
+    temp
+}
+
+const KEPT: &str = "board:1:101 verdicts:2:102 roll:3:103 index:10240 ballots:1224";
+
+#[test]
+fn an_audit_is_printed_as_it_is_answered() {
+    let temp = two_boards();
+    let accepted = [
+        ("STAND_IN_AUDIT", "0 4 3 2 5 6 1 2 3 4 5 6 7 4294967295"),
+        ("STAND_IN_BALLOTS", "11 12 13 21 22 23 31 32 33"),
+    ];
+    let weight = 5 * (1u64 << 32) + 6;
+    let (ran, notes) = ask(&temp, &accepted, &["audit", "--rows", "kept"]);
+    assert_eq!((ran.text(), ran.status), (format!("kept\taccepted 4 3 2 {weight}\n11 12 13\n21 22 23\n").as_str(), 0));
+    assert_eq!(notes, format!("audit {KEPT} answer:14\n"));
+    let (ran, _) = ask(&temp, &accepted, &["audit", "--json", "kept"]);
+    let object = &objects(ran.text())[0];
+    assert_eq!(object.text("end"), "00000001000000020000000300000004000000050000000600000007ffffffff");
+    assert_eq!((object.number("weight"), object.number("ballots")), (weight, 2));
+    for number in (1..=16).chain([18, 20, 21]) {
+        let answer = format!("{number} 7 0 0 0 0 0 0 0 0 0 0 0 0");
+        let (ran, _) = ask(&temp, &[("STAND_IN_AUDIT", &answer)], &["audit", "kept"]);
+        assert_eq!((ran.text(), ran.status), (format!("kept\trefused {number} at 7\n").as_str(), 1));
+    }
+}
+
+#[test]
+fn a_comparison_is_printed_as_it_is_answered() {
+    let temp = two_boards();
+    let audit = ("STAND_IN_AUDIT", "0 9 8 0 0 0 1 1 1 1 1 1 1 1");
+    for (answer, line, status) in [
+        ("2 0 0 0 0 0", "same", 0),
+        ("1 0 0 0 0 0", "apart", 1),
+        ("3 0 0 0 17 19", "collision 17 19", 1),
+        ("3 0 0 0 1 4294967295", "collision 1 4294967295", 1),
+        ("0 0 15 16 0 0", "kept refused 15 at 16", 1),
+        ("0 1 15 16 0 0", "later refused 15 at 16", 1),
+        ("0 1 19 9 0 0", "later refused 19 at 9", 1),
+    ] {
+        let answers = [audit, ("STAND_IN_COMPARE", answer)];
+        for (words, main) in [(&["compare", "kept", "later"][..], 8), (&["compare", "kept", "later", "77"], 77)] {
+            let (ran, notes) = ask(&temp, &answers, words);
+            assert_eq!((ran.text(), ran.status, ran.errors()), (format!("{line}\n").as_str(), status, ""));
+            let boards =
+                "kept:1:101 kept_verdicts:2:102 kept_roll:3:103 later:4:104 later_verdicts:5:105 later_roll:6:106";
+            let tables = "kept_index:10240 kept_ballots:1224 later_index:10240 later_ballots:1224";
+            let last = notes.lines().last().expect("a call");
+            assert_eq!(last, format!("compare {boards} {tables} answer:6 number:{main}"));
+        }
+    }
+    let answers = [audit, ("STAND_IN_COMPARE", "3 0 0 0 17 19")];
+    let (ran, _) = ask(&temp, &answers, &["compare", "--json", "kept", "later"]);
+    let object = &objects(ran.text())[0];
+    assert_eq!(object.keys(), ["answer", "kept_main", "later_main", "main"]);
+    let found = (object.text("answer"), object.number("kept_main"), object.number("later_main"), object.number("main"));
+    assert_eq!((found, ran.status), (("collision", 17, 19, 8), 1));
+}
+
+#[test]
+fn an_ancestry_is_printed_as_it_is_answered() {
+    let temp = two_boards();
+    // Two items: a ballot's head at place 0 would have no room, so it is a cast at 0 and a genesis at 43.
+    let mut words = vec![0u32; 103];
+    words[0] = 0x1014_0000;
+    words[18] = 5;
+    words[43] = 0x1001_0011;
+    words[43 + 1 + 17 + 17] = 7;
+    let bytes: Vec<u8> = words.iter().flat_map(|word| word.to_be_bytes()).collect();
+    fs::write(temp.join("kept/board.words"), bytes).expect("written");
+    let tables =
+        [("STAND_IN_INDEX", "43 1 0 0 0 0 1 0 0 0"), ("STAND_IN_LIST", "2 1 9 9"), ("STAND_IN_ANCESTRY", "0 2")];
+    let (ran, notes) = ask(&temp, &tables, &["ancestry", "kept", "2"]);
+    let right = "2 cast 1970-01-01T00:00:00.005Z\n1 genesis 1970-01-01T00:00:00.007Z\n";
+    assert_eq!((ran.text(), ran.status, ran.errors()), (right, 0, ""));
+    let given = KEPT.replace("board:1:101", &format!("board:103:{}", 0x1014_0000));
+    assert_eq!(notes.lines().last(), Some(format!("ancestry {given} list:2048 answer:2 number:2").as_str()));
+    let (ran, _) = ask(&temp, &[("STAND_IN_ANCESTRY", "19 48")], &["ancestry", "kept", "2"]);
+    assert_eq!((ran.text(), ran.status), ("refused 19 at 48\n", 1));
+}
+
+/// What the header says never happens is an error, not an answer.
+#[test]
+fn a_library_that_does_not_answer() {
+    let temp = two_boards();
+    let audit = ("STAND_IN_AUDIT", "0 9 8 0 0 0 1 1 1 1 1 1 1 1");
+    let cases: [(Answers, &[&str]); 4] = [
+        (&[], &["audit", "kept"]),
+        (&[audit], &["compare", "kept", "later"]),
+        (&[audit, ("STAND_IN_COMPARE", "4 0 0 0 0 0")], &["compare", "kept", "later"]),
+        (&[audit], &["ancestry", "kept", "1"]),
+    ];
+    for (answers, words) in cases {
+        let (ran, _) = ask(&temp, answers, words);
+        assert_eq!((ran.text(), ran.status), ("", 2), "{words:?}");
+        assert!(!ran.err.is_empty());
+    }
+}
+
+/// The library is not asked where the files' rule has the answer, nor of the later board where the kept one is refused.
+#[test]
+fn the_library_is_not_asked_in_vain() {
+    let temp = two_boards();
+    let sound = ("STAND_IN_AUDIT", "0 9 8 0 0 0 1 1 1 1 1 1 1 1");
+    let refused = ("STAND_IN_AUDIT", "7 3 0 0 0 0 0 0 0 0 0 0 0 0");
+    let same = ("STAND_IN_COMPARE", "2 0 0 0 0 0");
+    let (ran, notes) = ask(&temp, &[refused, same], &["compare", "kept", "later"]);
+    assert_eq!((ran.text(), ran.status), ("kept refused 7 at 3\n", 1));
+    assert!(!notes.contains("board:4"), "{notes}");
+    fs::write(temp.join("later/roll.words"), [0; 5]).expect("written");
+    let (ran, _) = ask(&temp, &[sound, same], &["compare", "kept", "later"]);
+    assert_eq!((ran.text(), ran.status), ("later refused 4 at 0\n", 1));
+    for words in [&["audit", "later"][..], &["ancestry", "later", "1"], &["compare", "later", "kept"]] {
+        let (ran, notes) = ask(&temp, &[sound, same, ("STAND_IN_ANCESTRY", "0 0")], words);
+        assert!(ran.text().contains("refused 4 at 0\n"), "{words:?}: {}", ran.text());
+        assert_eq!((notes.as_str(), ran.status), ("", 1), "{words:?}");
+    }
+}

@@ -1,0 +1,111 @@
+//! The stored boards: on each the program says what the auditor prints, and of a folder without a file that it was not audited.
+
+mod common;
+
+use common::*;
+use reference::program::PROGRAM_WORDS;
+use std::fs;
+use std::os::unix::ffi::OsStrExt;
+use std::path::{Path, PathBuf};
+
+/// The folders with a board in a folder, in the order of their names.
+fn stored(folder: &str) -> Vec<PathBuf> {
+    let entries = fs::read_dir(root().join(folder)).expect("the folder can be read");
+    let mut paths: Vec<PathBuf> = entries.map(|entry| entry.expect("an entry").path()).filter(|p| p.is_dir()).collect();
+    paths.sort_by(|a, b| a.as_os_str().as_bytes().cmp(b.as_os_str().as_bytes()));
+    paths
+}
+
+fn missing(folder: &Path) -> Vec<&'static str> {
+    NAMES.into_iter().filter(|name| !folder.join(name).exists()).collect()
+}
+
+/// What the program must print: what the auditor prints, but that more words are no reason to refuse.
+fn right(folder: &Path) -> String {
+    let printed = fs::read_to_string(folder.join("expected")).expect("what is expected is stored");
+    assert_eq!(auditor(folder), printed, "the auditor in {}", folder.display());
+    let files = read(folder);
+    if files[0].len() > 4 * PROGRAM_WORDS {
+        assert_eq!(printed, "refused 1 at 0\n");
+        assert_ne!(expected(&files), printed, "{}: no board for the library's limits", folder.display());
+        return expected(&files);
+    }
+    printed
+}
+
+fn status_of(answer: &str) -> i32 {
+    i32::from(!answer.starts_with("accepted "))
+}
+
+#[test]
+fn each_board_is_answered_as_by_the_auditor() {
+    let (mut whole, mut lacking, mut long) = (0, 0, 0);
+    for folder in stored("tests/boards").into_iter().chain(stored("samples")) {
+        let right = right(&folder);
+        let ran = tirfolma(words_of(&["audit", "--rows"], [&folder]));
+        if let Some(file) = missing(&folder).first() {
+            lacking += 1;
+            assert_eq!(ran.text(), format!("{}\tnot audited\n", folder.display()));
+            assert_eq!(ran.status, 2);
+            ran.assert_message("a missing file");
+            assert!(ran.errors().contains(&folder.join(file).display().to_string()), "{}", ran.errors());
+            with_empty_files(&folder, &right);
+        } else {
+            whole += 1;
+            long += usize::from(fs::metadata(folder.join(NAMES[0])).expect("a file").len() > 4 * PROGRAM_WORDS as u64);
+            assert_eq!(ran.text(), format!("{}\t{right}", folder.display()));
+            assert_eq!((ran.status, ran.errors()), (status_of(&right), ""), "{}", folder.display());
+        }
+    }
+    assert!(whole > 170 && lacking >= 3 && long >= 2, "{whole} boards, {lacking} without a file, {long} long ones");
+}
+
+/// With empty files in the place of those that are missing the answer is the auditor's.
+fn with_empty_files(folder: &Path, right: &str) {
+    let temp = Temp::new("filled");
+    let filled = temp.board("filled", &read(folder));
+    let ran = tirfolma(words_of(&["audit", "--rows"], [&filled]));
+    assert_eq!(ran.text(), format!("{}\t{right}", filled.display()));
+    assert_eq!((ran.status, ran.errors()), (status_of(right), ""));
+}
+
+/// The lines of one call for a whole folder, and what they must be.
+fn all_at_once(folder: &str) -> (Ran, String) {
+    let mut all = String::new();
+    for path in stored(folder) {
+        let right = right(&path);
+        let first = if missing(&path).is_empty() { right.lines().next().expect("a line") } else { "not audited" };
+        all += &format!("{}\t{first}\n", path.display());
+    }
+    (tirfolma(words_of(&["audit"], [root().join(folder)])), all)
+}
+
+#[test]
+fn all_boards_in_one_call() {
+    let (ran, all) = all_at_once("tests/boards");
+    assert!(all.lines().count() > 150, "only {} boards", all.lines().count());
+    assert_eq!(ran.text(), all);
+    assert_eq!(ran.status, 2, "there are boards without a file");
+    assert_eq!(ran.errors().lines().count(), all.matches("\tnot audited\n").count(), "{}", ran.errors());
+}
+
+#[test]
+fn all_samples_in_one_call() {
+    let (ran, all) = all_at_once("samples");
+    assert_eq!(ran.text(), all);
+    assert_eq!((ran.status, ran.errors()), (1, ""));
+    assert_eq!(all.matches("\taccepted ").count(), 2);
+    assert_eq!(all.matches("\trefused ").count(), 9);
+}
+
+#[test]
+fn sound_boards_alone_are_all_accepted() {
+    let sound: Vec<PathBuf> = stored("tests/boards")
+        .into_iter()
+        .filter(|path| missing(path).is_empty() && right(path).starts_with("accepted"))
+        .collect();
+    assert!(sound.len() > 10, "only {} sound boards", sound.len());
+    let ran = tirfolma(words_of(&["audit"], &sound));
+    assert_eq!((ran.status, ran.errors()), (0, ""));
+    assert_eq!(ran.lines().len(), sound.len());
+}
