@@ -59,8 +59,8 @@ impl Function<'_> {
         format!("    pub fn {}({}) -> bool;\n", self.name, parameters.join(", "))
     }
 
-    /// A pointer and the number of its words behind it are a slice. What Rust asks of slices is what the header asks of buffers: words that are there,
-    /// and none written that is also read or written through another.
+    /// A pointer and the number of its words behind it are a slice. What Rust asks of slices is what the header asks of buffers: words that
+    /// are there, and none written that is also read or written through another.
     fn over_slices(&self) -> Result<String, String> {
         let (mut parameters, mut arguments) = (Vec::new(), Vec::new());
         let mut rest = self.parameters.iter();
@@ -80,7 +80,8 @@ impl Function<'_> {
             arguments.push(format!("{name}.{pointer}(), {name}.len()"));
         }
         let (name, parameters, arguments) = (self.name, parameters.join(", "), arguments.join(", "));
-        Ok(format!("#[allow(clippy::too_many_arguments)]\npub fn {name}({parameters}) -> bool {{\n    unsafe {{ raw::{name}({arguments}) }}\n}}\n"))
+        let call = format!("    unsafe {{ raw::{name}({arguments}) }}\n");
+        Ok(format!("#[allow(clippy::too_many_arguments)]\npub fn {name}({parameters}) -> bool {{\n{call}}}\n"))
     }
 }
 

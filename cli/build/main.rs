@@ -1,5 +1,5 @@
-//! Makes the library's functions from include/tirfolma.h, links the static library (TIRFOLMA_LIB, or where `rt staticlib abi` writes it), and
-//! takes down the commit and the kit's id (TIRFOLMA_COMMIT, TIRFOLMA_KIT) for --version.
+//! Makes the library's functions from include/tirfolma.h, links the static library (TIRFOLMA_LIB, or where `rt staticlib abi` writes it),
+//! and takes down the commit and the kit's id (TIRFOLMA_COMMIT, TIRFOLMA_KIT) for --version.
 use std::env;
 use std::fs;
 use std::path::PathBuf;

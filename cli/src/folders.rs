@@ -7,9 +7,9 @@ use std::io;
 use std::os::unix::ffi::OsStrExt;
 use std::path::{Path, PathBuf};
 
-/// The folders that the arguments stand for, in order; in the place of one that can't be read, the error. A folder with one of a board's files
-/// stands for itself, any other for the folders in it, in the order of their names' bytes. What is in these is not looked at: a folder in
-/// which the files are missing must not be taken for one that stands for others.
+/// The folders that the arguments stand for, in order; in the place of one that can't be read, the error. A folder with one of a board's
+/// files stands for itself, any other for the folders in it, in the order of their names' bytes. What is in these is not looked at: a folder
+/// in which the files are missing must not be taken for one that stands for others.
 pub fn folders(arguments: &[OsString]) -> Vec<Result<PathBuf, Error>> {
     let mut found = Vec::new();
     for argument in arguments {

@@ -1,5 +1,5 @@
-//! The program over a stand-in for the library (stand_in.c), which answers what it is told: each answer must be printed as it is, also those
-//! that no board will give, as a collision; and each buffer must be given in its place.
+//! The program over a stand-in for the library (stand_in.c), which answers what it is told: each answer must be printed as it is, also
+//! those that no board will give, as a collision; and each buffer must be given in its place.
 
 mod common;
 

@@ -19,7 +19,8 @@ impl Numbered<'_> {
     }
 }
 
-/// An item that is whole, of a listed type and of a number of content words that the type has, and that comes right behind items which passed.
+/// An item that is whole, of a listed type and of a number of content words that the type has, and that comes right behind items which
+/// passed.
 pub struct Refused<'a> {
     pub passed: Passed<'a>,
     pub item: Item<'a>,
