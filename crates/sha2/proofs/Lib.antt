@@ -1,0 +1,9 @@
+pub mod Words
+pub mod Rotations
+pub mod Schedule
+pub mod Places
+pub mod Blocks
+pub mod Feed
+pub mod Ending
+pub mod Holds
+pub mod Pieces

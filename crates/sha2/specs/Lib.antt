@@ -1,0 +1,5 @@
+pub mod Words
+pub mod Blocks
+pub mod State
+pub mod Pieces
+pub mod Rounds

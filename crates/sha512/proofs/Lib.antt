@@ -1,0 +1,5 @@
+pub mod Feed
+pub mod Holds
+pub mod Ending
+pub mod Written
+pub mod Pieces

@@ -1,0 +1,4 @@
+pub mod Rounds
+pub mod Halves
+pub mod Padding
+pub mod Agree

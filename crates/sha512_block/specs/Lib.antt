@@ -1,0 +1,2 @@
+pub mod Fips
+pub mod Rounds
