@@ -1,15 +1,18 @@
 -- Request (iii), whole: "Show that the same words, fed in any pieces, empty ones too, give the same hash", and that "whenever the partly
 -- filled block is empty" no word of "each full block that follows" is stored in it.
--- The contracts of the code are equations with the definitions of specs/State.antt: `Hash::new` gives `fresh`, `Hash::word` and `Hash::words`
--- give `fed`, `Hash::finish` gives `digestOf`.
-use mathlib.Core.Path.{_≡_, refl, sym, ap, ap₂, _∙_}
-use Prim.Native.Nat.{ℕ, _+_, _*_, _/_, _%_, _^_, _<_}
+-- The contracts of the code are equations with the definitions of specs/State.antt: `Hash::new` gives `fresh`, `Hash::word` and
+-- `Hash::words` give `fed`, `Hash::finish` gives `digestOf`.
+use mathlib.Core.Path.{_≡_, refl, sym, ap, _∙_}
+use Prim.Native.Nat.{ℕ, _+_, _*_, _%_, _^_, _<_}
 use mathlib.Core.List.{List, [], _∷_, _++_, append-assoc, append-nil}
 use native.Mathlib.Omega.{arith}
-use lib.ListN.{length, take, drop, length-append}
-use lib.Seq.{take-append-le, drop-append-add}
+use lib.ListN.{length, length-append}
+use Rattle.sha2.specs.State.{blockAfter}
+use Rattle.sha2.proofs.Pieces as sha2
 use Rattle.sha256_block.specs.Fips.{sha256Words}
-use Rattle.sha256.specs.State.{missing, wholeEnd, stored, blockAfter, fresh, fed, digestOf, Holds}
+use Rattle.sha256_blocks.specs.Blocks.{sha256Function}
+use Rattle.sha256_blocks.proofs.Blocks.{sixteen}
+use Rattle.sha256.specs.State.{fresh, fed, digestOf, Holds}
 use Rattle.sha256.specs.Pieces.{joined, fedAll}
 use Rattle.sha256.specs.declared.Hash.{Hash}
 use Rattle.sha256.proofs.Holds.{holds-fresh, holds-fed, digest-held}
@@ -42,22 +45,7 @@ pieces-allowed ps p l =
 
 -- ---- whole blocks are not stored
 
--- behind words xs that fill the block up, the words left over are those of the rest of the piece
-left-over : (k : ℕ) (xs zs : List ℕ) → (k + length xs) % 16 ≡ 0
-    → drop (wholeEnd k (length (xs ++ zs))) (xs ++ zs) ≡ drop (length zs / 16 * 16) zs
-left-over k xs zs p =
-    let n = length-append xs zs in
-    let e : wholeEnd k (length (xs ++ zs)) ≡ length xs + length zs / 16 * 16 = omega (arith, n) in
-    ap (λ (j : ℕ). drop j (xs ++ zs)) e ∙ drop-append-add xs zs (length zs / 16 * 16)
-
 -- whole blocks ys that are fed where the block is empty, in one piece with words before and behind them: no word of theirs is left in it
 pub whole-unstored : (b : List ℕ) (k : ℕ) (xs ys zs : List ℕ) → (k + length xs) % 16 ≡ 0 → length ys % 16 ≡ 0
-    → blockAfter b k (xs ++ ys ++ zs) ≡ blockAfter b k (xs ++ zs)
-unfolding blockAfter
-whole-unstored b k xs ys zs p q =
-    let n = length-append xs ys in
-    let behind : (k + length (xs ++ ys)) % 16 ≡ 0 = omega (arith, n) in
-    ap₂ (λ (first last : List ℕ). stored (stored b (k % 16) first) 0 last)
-    (ap (take (missing k)) (append-assoc xs ys zs) ∙ take-append-le (missing k) xs (ys ++ zs) (omega arith)
-    ∙ sym (take-append-le (missing k) xs zs (omega arith)))
-    (left-over k (xs ++ ys) zs behind ∙ sym (left-over k xs zs p))
+    → blockAfter sha256Function b k (xs ++ ys ++ zs) ≡ blockAfter sha256Function b k (xs ++ zs)
+whole-unstored = sha2.whole-unstored sha256Function sixteen

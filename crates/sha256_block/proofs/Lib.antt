@@ -1,4 +1,3 @@
 pub mod Rounds
-pub mod Forms
 pub mod Padding
 pub mod Agree

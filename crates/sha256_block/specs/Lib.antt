@@ -1,3 +1,2 @@
 pub mod Fips
-pub mod Words
 pub mod Rounds

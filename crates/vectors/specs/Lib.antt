@@ -1,2 +1,4 @@
 pub mod Messages
-pub mod Roots
+pub mod Feeding
+pub mod Hexadecimal
+pub mod Input

@@ -1,138 +1,75 @@
-// Runs test messages of FIPS 180-4 and of the CAVP through the hash and prints each digest, which the file stdout has from elsewhere.
-// Only messages of whole words: "abc" and other messages of bytes are theorems about the definition, in proofs/Vectors.antt.
+// Runs test messages through the hashes and prints each digest: of words that count up, of each length, whole and cut in the middle, and of
+// one length cut at each place, of a million times "a", and of the messages of standard input. The file stdout has the digests from
+// elsewhere: those of the CAVP's messages are its own (MD), the others are of Python's hashlib. Only messages of whole words of 32 bits:
+// "abc" and other messages of bytes are theorems about the definitions, in crate `standard`.
+mod hash256;
+mod hash512;
+mod input;
+mod lines;
 mod messages;
 
-use libc::STDOUT_FILENO;
-use sha256::Hash;
-ghost use mathlib.Core.Path.{_≡_};
-ghost use Prim.Native.Nat.{_*_, _^_, _<_, _≤_};
-ghost use lib.ListN.{length, replicate};
-ghost use Rattle.sha256_block.specs.Fips.{sha256Words};
-ghost use Rattle.vectors.specs.Messages.{counting, within};
+ghost use Prim.Native.Nat.{_≤_};
+ghost use lib.ListN.{length};
 
-// The end of a line: the digest, in hexadecimal.
-fn end_line(digest: [u32; 8]) {
-    io::write_all(STDOUT_FILENO, b" ");
-    let mut i: usize = 0;
-    while i < 8 {
-        io::print_hex(STDOUT_FILENO, digest[i] as u64, 8);
-        i += 1;
-    }
-    io::write_all(STDOUT_FILENO, b"\n");
-}
-
-// A line: the message's name and its digest.
-fn show(name: &[u8], digest: [u32; 8]) {
-    io::write_all(STDOUT_FILENO, name);
-    end_line(digest);
-}
-
-// The digest of n times the word w, fed one at a time.
-fn repeated(w: u32, n: usize) -> [u32; 8]
-    requires { ⌜ n * 32 < 2 ^ 64 ⌝ }
-    ensures { λ r. ⌜ r ≡ sha256Words (replicate n w) ⌝ }
-{
-    let mut h = Hash::new();
-    let mut i: usize = 0;
-    while i < n {
-        h = h.word(w);
-        i += 1;
-    }
-    h.finish()
-}
-
-// A place to cut at: c, but no earlier than from and no later than end.
-fn within(c: usize, from: usize, end: usize) -> usize
-    requires { ⌜ from ≤ end ⌝ }
-    ensures { λ r. ⌜ (r ≡ within c from end) × (from ≤ r) × (r ≤ end) ⌝ }
-{
-    if c < from {
-        return from;
-    }
-    if end < c {
-        return end;
-    }
-    c
-}
-
-// The digest of the words, fed in pieces: they are cut at the places given, in their order. A place that is not behind the one before it
-// makes an empty piece, and so does one past the end. Whatever the places, the digest is that of the words.
-fn in_pieces(words: &[u32], places: &[usize]) -> [u32; 8]
-    requires { ⌜ length (now words) * 32 < 2 ^ 64 ⌝ }
-    ensures { λ r. ⌜ r ≡ sha256Words (now (words .entry)) ⌝ }
-{
-    let mut h = Hash::new();
-    let mut from: usize = 0;
-    let mut i: usize = 0;
-    while i < places.len() {
-        let to = within(places[i], from, words.len());
-        h = h.words(&words[from..to]);
-        from = to;
-        i += 1;
-    }
-    h = h.words(&words[from..]);
-    h.finish()
-}
-
-// The words whose bytes count up from 0: 33 of them, one more than two blocks hold.
-fn counting_words() -> [u32; 33]
-    ensures { λ r. ⌜ r ≡ counting 33 ⌝ }
-{
-    let mut m = [0u32; 33];
-    let mut i: usize = 0;
-    while i < 33 {
-        m[i] = 0x0001_0203 + (i as u32) * 0x0404_0404;
-        i += 1;
-    }
-    m
-}
-
-// A line for each length from 0 to 33 words, named by its number.
+// The lines of each length from 0 to 65 words, one more than two blocks of SHA-512 hold.
 fn show_counting() {
-    let m = counting_words();
+    let m = messages::counting_words();
     let mut n: usize = 0;
-    while n <= 33 {
-        io::print_decimal(STDOUT_FILENO, n as u64);
-        end_line(sha256::digest(&m[..n]));
+    while n <= 65 {
+        show(&m[..n]);
         n += 1;
     }
 }
 
-// A line for each place to cut all 33 words at: up to there, nothing, and the rest.
+fn show(words: &[u32])
+    requires { ⌜ length (now words) ≤ 65 ⌝ }
+{
+    hash256::show(b"", words);
+    hash512::show384(b"", words);
+    hash512::show512(b"", words);
+    show_cut(b"middle-", words.len(), words, words.len() / 2);
+}
+
+// The lines of each place to cut 65 words at.
 fn show_pieces() {
-    let m = counting_words();
+    let m = messages::counting_words();
     let mut at: usize = 0;
-    while at <= 33 {
-        io::write_all(STDOUT_FILENO, b"cut-");
-        io::print_decimal(STDOUT_FILENO, at as u64);
-        end_line(in_pieces(&m, &[at, at]));
+    while at <= 65 {
+        show_cut(b"cut-", at, &m, at);
         at += 1;
     }
 }
 
-// The examples of the standard, and short messages of the CAVP.
-fn show_examples() {
-    show(b"empty", sha256::digest(&[]));
-    show(b"448-bits", sha256::digest(&messages::BITS_448));
-    show(b"896-bits", sha256::digest(&messages::BITS_896));
-    show(b"cavp-32-bits", sha256::digest(&[0x74ba_2521]));
-    show(b"cavp-64-bits", sha256::digest(&[0x5738_c929, 0xc4f4_ccb6]));
+// The words up to the place, nothing, and the rest, fed to the running hashes.
+fn show_cut(kind: &[u8], n: usize, words: &[u32], at: usize)
+    requires { ⌜ length (now words) ≤ 65 ⌝ }
+{
+    let places = [at, at];
+    lines::show(kind, n, &hash256::in_pieces(words, &places));
+    lines::show(kind, n, &hash512::in_pieces384(words, &places));
+    lines::show(kind, n, &hash512::in_pieces512(words, &places));
 }
 
-// Messages of one byte over and over.
+// A million bytes "a", and for SHA-256 as many zeros: named by the word, in hexadecimal, and the number of words.
 fn show_repeated() {
-    show(b"million-a", repeated(0x6161_6161, 250_000));
-    show(b"zeros-56", repeated(0, 14));
-    show(b"zeros-64", repeated(0, 16));
-    show(b"zeros-120", repeated(0, 30));
-    show(b"zeros-1000", repeated(0, 250));
-    show(b"A-1000", repeated(0x4141_4141, 250));
-    show(b"zeros-1000000", repeated(0, 250_000));
+    let n: usize = 250_000;
+    lines::show(b"repeated-61616161-", n, &hash256::repeated(0x6161_6161, n));
+    lines::show(b"repeated-00000000-", n, &hash256::repeated(0, n));
+    lines::show(
+        b"repeated-61616161-",
+        n,
+        &hash512::repeated384(0x6161_6161, n),
+    );
+    lines::show(
+        b"repeated-61616161-",
+        n,
+        &hash512::repeated512(0x6161_6161, n),
+    );
 }
 
 fn main() {
-    show_examples();
-    show_repeated();
     show_counting();
     show_pieces();
+    show_repeated();
+    input::show();
 }

@@ -1,51 +1,31 @@
-// The messages of the standard's examples, as words.
+// Test messages, as words, and places to cut them at.
+ghost use mathlib.Core.Path.{_≡_};
+ghost use Prim.Native.Nat.{_≤_};
+ghost use Rattle.vectors.specs.Messages.{counting, within};
 
-// "abcdbcdecdefdefg..nopq"
-pub const BITS_448: [u32; 14] = [
-    0x6162_6364,
-    0x6263_6465,
-    0x6364_6566,
-    0x6465_6667,
-    0x6566_6768,
-    0x6667_6869,
-    0x6768_696a,
-    0x6869_6a6b,
-    0x696a_6b6c,
-    0x6a6b_6c6d,
-    0x6b6c_6d6e,
-    0x6c6d_6e6f,
-    0x6d6e_6f70,
-    0x6e6f_7071,
-];
+// The words whose bytes count up from 0, and again from 0 behind 255: 65 of them, one more than two blocks of SHA-512 hold.
+pub fn counting_words() -> [u32; 65]
+    ensures { λ r. ⌜ r ≡ counting 65 ⌝ }
+{
+    let mut m = [0u32; 65];
+    let mut i: usize = 0;
+    while i < 65 {
+        m[i] = 0x0001_0203 + (i % 64) as u32 * 0x0404_0404;
+        i += 1;
+    }
+    m
+}
 
-// "abcdefghbcdefghi..nopqrstu"
-pub const BITS_896: [u32; 28] = [
-    0x6162_6364,
-    0x6566_6768,
-    0x6263_6465,
-    0x6667_6869,
-    0x6364_6566,
-    0x6768_696a,
-    0x6465_6667,
-    0x6869_6a6b,
-    0x6566_6768,
-    0x696a_6b6c,
-    0x6667_6869,
-    0x6a6b_6c6d,
-    0x6768_696a,
-    0x6b6c_6d6e,
-    0x6869_6a6b,
-    0x6c6d_6e6f,
-    0x696a_6b6c,
-    0x6d6e_6f70,
-    0x6a6b_6c6d,
-    0x6e6f_7071,
-    0x6b6c_6d6e,
-    0x6f70_7172,
-    0x6c6d_6e6f,
-    0x7071_7273,
-    0x6d6e_6f70,
-    0x7172_7374,
-    0x6e6f_7071,
-    0x7273_7475,
-];
+// A place to cut at: c, but no earlier than from and no later than end.
+pub fn within(c: usize, from: usize, end: usize) -> usize
+    requires { ⌜ from ≤ end ⌝ }
+    ensures { λ r. ⌜ (r ≡ within c from end) × (from ≤ r) × (r ≤ end) ⌝ }
+{
+    if c < from {
+        return from;
+    }
+    if end < c {
+        return end;
+    }
+    c
+}

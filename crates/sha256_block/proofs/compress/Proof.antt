@@ -1,6 +1,7 @@
 -- `compress` meets its contract: the first 16 rounds, then the other 48.
 use borrow.Author.Needs.{needs}
-use Rattle.sha256_block.proofs.Rounds.{reached-none, compress-end, schedule-end}
+use Rattle.sha2.proofs.Schedule.{reached-none, schedule-end}
+use Rattle.sha256_block.proofs.Rounds.{equations, compress-end}
 use Rattle.sha256_block.proofs.compress.Statement.{statement}
 use Rattle.sha256_block.proofs.compress.Tie as tie
 
@@ -11,7 +12,7 @@ returns c =
     let i = f .before .before in
     let s = i .before .before in
     let M = s .args .m .now in
-    let after = f .first-rounds .ensures _ (reached-none M _ _ (s .pre .2)) in
+    let after = f .first-rounds .ensures _ (reached-none (equations M) _ _ (s .pre .2)) in
     let end = l .later-rounds .ensures M _ after in
     (compress-end (s .args .h) M _ _ _ _ (i .initialize .ensures) end (c .intermediate .ensures), schedule-end end)
 

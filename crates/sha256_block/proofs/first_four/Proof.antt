@@ -1,6 +1,6 @@
 -- `first_four` meets its contract: four rounds, one after the other.
 use native.Mathlib.Omega.{arith}
-use Rattle.sha256_block.proofs.Rounds.{onward-four}
+use Rattle.sha2.proofs.Schedule.{onward-four}
 use Rattle.sha256_block.proofs.first_four.Statement.{statement}
 use Rattle.sha256_block.proofs.first_four.Tie as tie
 
@@ -10,7 +10,7 @@ returns c =
     let c₂ = c₃ .before .before in
     let c₁ = c₂ .before .before in
     let a = c₁ .before .before .before .args in
-    onward-four (a .m .now) (a .t) (c₁ .first-step .ensures) (c₂ .first-step2 .ensures) (c₃ .first-step3 .ensures) (c .first-step4 .ensures)
+    onward-four (a .t) (c₁ .first-step .ensures) (c₂ .first-step2 .ensures) (c₃ .first-step3 .ensures) (c .first-step4 .ensures)
 
 pub first-four-spec : {M : Type 1} → statement M
 first-four-spec =

@@ -4,7 +4,7 @@ use Prim.Native.Nat.{_≤_, _-_, _%_}
 use native.Mathlib.Omega.{arith}
 use borrow.Author.Needs.{needs}
 use Rattle.sha256_block.specs.Rounds.{Onward}
-use Rattle.sha256_block.proofs.Rounds.{onward-to, onward-then}
+use Rattle.sha2.proofs.Schedule.{onward-to, onward-then}
 use Rattle.sha256_block.proofs.first_rounds.Statement.{statement}
 use Rattle.sha256_block.proofs.first_rounds.Tie as tie
 

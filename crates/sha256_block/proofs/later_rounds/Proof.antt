@@ -5,7 +5,7 @@ use mathlib.Core.List.{List}
 use native.Mathlib.Omega.{arith}
 use borrow.Author.Needs.{needs}
 use Rattle.sha256_block.specs.Rounds.{Onward}
-use Rattle.sha256_block.proofs.Rounds.{onward-to, onward-then}
+use Rattle.sha2.proofs.Schedule.{onward-to, onward-then}
 use Rattle.sha256_block.proofs.later_rounds.Statement.{statement}
 use Rattle.sha256_block.proofs.later_rounds.Tie as tie
 

@@ -1,7 +1,8 @@
 -- `step` meets its contract: one round.
 use borrow.Author.Needs.{needs}
 use native.Mathlib.Omega.{arith}
-use Rattle.sha256_block.proofs.Rounds.{onward-one}
+use Rattle.sha2.proofs.Schedule.{onward-one}
+use Rattle.sha256_block.proofs.Rounds.{equations}
 use Rattle.sha256_block.proofs.step.Statement.{statement}
 use Rattle.sha256_block.proofs.step.Tie as tie
 
@@ -10,7 +11,7 @@ returns c M =
     let x = c .before .before .message-word in
     let s = c .before .before .before .before in
     let a = s .args in
-    onward-one M (a .w .now) (a .k .now) (a .t) (x .result) (a .v) _ (s .pre .0) (x .ensures M) (c .round .ensures) (omega arith)
+    onward-one (equations M) (a .w .now) (a .k .now) (a .t) (x .result) (a .v) _ (s .pre .0) (x .ensures M) (c .round .ensures) (omega arith)
 
 pub step-spec : {M : Type 1} → statement M
 step-spec =

@@ -7,8 +7,10 @@ use borrow.Author.Needs.{needs}
 use lib.ListN.{length}
 use Rattle.sha256_block.specs.Fips.{K}
 use Rattle.sha256_block.proofs.Rounds.{length-schedule}
-use Rattle.sha256_blocks.specs.Blocks.{hashFrom}
-use Rattle.sha256_blocks.proofs.Blocks.{length-part, hashFrom-next, hashFrom-end}
+use Rattle.sha2.specs.Blocks as sha2
+use Rattle.sha2.proofs.Blocks.{length-part, hashFrom-next, hashFrom-end}
+use Rattle.sha256_blocks.specs.Blocks.{sha256Function, hashFrom}
+use Rattle.sha256_blocks.proofs.Blocks.{sixteen}
 use Rattle.sha256_blocks.proofs.compress_blocks.Statement.{statement}
 use Rattle.sha256_blocks.proofs.compress_blocks.Tie as tie
 
@@ -19,7 +21,7 @@ abbrev μ-loop : tie.MeasureT-loop
 μ-loop s k w₀ r₀ i₀ w r i = length s - i
 
 loop-holds : tie.Need-loop-holds Inv-loop μ-loop
-unfolding hashFrom
+unfolding sha2.hashFrom
 loop-holds c = (omega arith, refl, refl, refl)
 
 compress-requires : tie.Need-compress-requires Inv-loop μ-loop
@@ -37,14 +39,14 @@ loop-again c =
       omega arith,
       omega arith,
       ap length (r .1) ∙ length-schedule _ 64,
-      hashFrom-next (a .h) (a .s .now) (l .i) (l .r) _ (l .inv .1) (l .inv .3) (r .0),
+      hashFrom-next sha256Function sixteen (a .h) (a .s .now) (l .i) (l .r) _ (l .inv .1) (l .inv .3) (r .0),
     )
 
 returns : tie.Need-returns Inv-loop μ-loop
 returns c =
     let l = c .before .loop in
     let a = c .before .before .before .args in
-    hashFrom-end (a .h) (a .s .now) (l .i) (omega arith) (omega arith) (l .inv .1) (l .inv .3)
+    hashFrom-end sha256Function sixteen (a .h) (a .s .now) (l .i) (omega arith) (omega arith) (l .inv .1) (l .inv .3)
 
 pub compress-blocks-spec : {M : Type 1} → statement M
 compress-blocks-spec =

@@ -1,5 +1,5 @@
 -- `functions::maj` meets its contract.
-use Rattle.sha256_block.proofs.Forms.{maj-form}
+use Rattle.sha2.proofs.Rotations.{maj-form}
 use Rattle.sha256_block.proofs.functions.maj.Statement.{statement}
 use Rattle.sha256_block.proofs.functions.maj.Tie as tie
 

@@ -1,13 +1,16 @@
 -- `functions::small_sigma1` meets its contract.
+use native.Mathlib.Omega.{arith}
 use borrow.Author.Needs.{needs}
-use Rattle.sha256_block.proofs.Forms.{smallSigma1-form}
+use Rattle.sha2.proofs.Rotations.{two-rotations-shift}
+use Rattle.sha256_block.specs.Fips.{smallSigma1}
 use Rattle.sha256_block.proofs.functions.small_sigma1.Statement.{statement}
 use Rattle.sha256_block.proofs.functions.small_sigma1.Tie as tie
 
 returns : tie.Need-returns
+unfolding smallSigma1
 returns c =
     let s = c .before .before in
-    smallSigma1-form (s .args .x) (s .fits .x .fits) (c .before .rotr .ensures) (c .rotr2 .ensures)
+    two-rotations-shift 32 17 2 10 (s .args .x) (omega arith) (s .fits .x .fits) (c .before .rotr .ensures) (c .rotr2 .ensures)
 
 pub small-sigma1-spec : {M : Type 1} → statement M
 small-sigma1-spec = tie.close (tie.spec (λ c κs. search needs) (λ c κs. search needs) returns)

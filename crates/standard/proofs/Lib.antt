@@ -1,0 +1,3 @@
+pub mod Roots
+pub mod Vectors
+pub mod Vectors512
