@@ -9,7 +9,7 @@ use Rattle.report.specs.declared.Report.{Report}
 use Rattle.report.specs.Reported.{reported}
 use Rattle.model.specs.Report as model
 use Rattle.model.specs.Report.{reportOf, indexAfter, ballotsAfter}
-use Rattle.format.specs.Base.{base}
+use Rattle.model.specs.Format.{Format}
 use Rattle.model.specs.Audit.{Outcome}
 use Rattle.model.specs.Comparing.{ComparingAnswer, comparingAnswer, laterIndexAfter, laterBallotsAfter}
 use Rattle.model.specs.Ancestry.{AncestryAnswer, ancestryAnswer, listAfter}
@@ -20,17 +20,17 @@ use Rattle.ancestry.specs.Answer as listing
 use Rattle.answers.specs.Words.{answerWords, auditSize, overwritten, compareSize, comparisonWords, ancestrySize, listingWords}
 use Rattle.abi.specs.Written.{hasRoom, AuditWritten, ComparisonWritten, ListingWritten}
 
-module _ (outcome : Outcome) (index ballots answer : List ℕ) where
+module _ (f : Format) (outcome : Outcome) (index ballots answer : List ℕ) where
   -- no room for the answer
-  pub audited-short : length answer < auditSize → AuditWritten outcome index ballots answer false index ballots answer
+  pub audited-short : length answer < auditSize → AuditWritten f outcome index ballots answer false index ballots answer
   audited-short h =
       let no : hasRoom auditSize answer ≡ false = lt-leb auditSize (length answer) h in
       record { is = sym no; report = rw no; indexRows = rw no; ballotRows = rw no }
 
   -- room: the words of the report, over the first of the answer
-  pub audited-told : auditSize ≤ length answer → (r : Report) → reported r ≡ reportOf base outcome
+  pub audited-told : auditSize ≤ length answer → (r : Report) → reported r ≡ reportOf f outcome
       → {index′ ballots′ answer′ : List ℕ} → index′ ≡ indexAfter outcome index → ballots′ ≡ ballotsAfter outcome ballots
-      → answer′ ≡ overwritten (answerWords (reported r)) answer → AuditWritten outcome index ballots answer true index′ ballots′ answer′
+      → answer′ ≡ overwritten (answerWords (reported r)) answer → AuditWritten f outcome index ballots answer true index′ ballots′ answer′
   audited-told h r told ei eb ea =
       let yes : hasRoom auditSize answer ≡ true = le-leb auditSize (length answer) h in
       record { is = sym yes; report = rw yes (ea ∙ ap (λ (m : model.Report). overwritten (answerWords m) answer) told); indexRows = rw yes ei; ballotRows = rw yes eb }

@@ -6,11 +6,12 @@ use Prim.Native.Nat.{ℕ}
 use lib.Dec.{leb}
 use lib.ListN.{length}
 use denote.Ref.{RefT, now}
+use Rattle.model.specs.Format.{Format}
 use Rattle.model.specs.Audit.{Outcome}
 use Rattle.model.specs.Report.{reportOf, indexAfter, ballotsAfter}
 use Rattle.model.specs.Comparing.{comparingAnswer, laterIndexAfter, laterBallotsAfter}
 use Rattle.model.specs.Ancestry.{ancestryAnswer, listAfter}
-use Rattle.format.specs.Base.{base}
+use Rattle.format.specs.Format.{formatOf}
 use Rattle.audit.specs.Outcome.{Slice, outcomeOf}
 use Rattle.entries.specs.Listing.{listingOutcome}
 use Rattle.answers.specs.Words.{overwritten, auditSize, answerWords, compareSize, comparisonWords, ancestrySize, listingWords}
@@ -25,18 +26,19 @@ hasRoom size buffer = leb size (length buffer)
 
 -- ---- audit
 
--- Of the audit's outcome. With room for the answer: true, the words of the report over the first of the buffer, and the tables of the outcome.
--- Without: false, and every word as it was.
-pub record AuditWritten (outcome : Outcome) (index ballots answer : List ℕ) (told : Bool) (index′ ballots′ answer′ : List ℕ) : Type 0 where
+-- Of the board's format and the audit's outcome. With room for the answer: true, the words of the report over the first of the buffer, and
+-- the tables of the outcome. Without: false, and every word as it was.
+pub record AuditWritten (f : Format) (outcome : Outcome) (index ballots answer : List ℕ)
+    (told : Bool) (index′ ballots′ answer′ : List ℕ) : Type 0 where
   pub is : told ≡ hasRoom auditSize answer
-  pub report : answer′ ≡ cond (hasRoom auditSize answer) (overwritten (answerWords (reportOf base outcome)) answer) answer
+  pub report : answer′ ≡ cond (hasRoom auditSize answer) (overwritten (answerWords (reportOf f outcome)) answer) answer
   pub indexRows : index′ ≡ cond (hasRoom auditSize answer) (indexAfter outcome index) index
   pub ballotRows : ballots′ ≡ cond (hasRoom auditSize answer) (ballotsAfter outcome ballots) ballots
 
 -- of what the caller passed
 abbrev pub Audited : {A B C : Type 0} → Slice A → Slice B → Slice C → Buffer → Buffer → Buffer → Bool → Type 0
 Audited board verdicts roll index ballots answer told =
-    AuditWritten (outcomeOf board verdicts roll index ballots)
+    AuditWritten (formatOf (now (board .entry))) (outcomeOf board verdicts roll index ballots)
     (now (index .entry)) (now (ballots .entry)) (now (answer .entry)) told
     (now (index .exit)) (now (ballots .exit)) (now (answer .exit))
 

@@ -18,7 +18,7 @@ use Rattle.model.proofs.Tests.{tests, neither, or-left, or-right, eq→eqb, if-
 use Rattle.model.proofs.Ancestry.{ancestry-line, line-length}
 use Rattle.model.proofs.Tables.{filled-append}
 use Rattle.model.proofs.Unchecked.{length-history}
-use Rattle.format.specs.Base.{base}
+use Rattle.format.specs.Format.{formatOf}
 use Rattle.index.specs.Kept.{before, Kept}
 
 -- numbers written into zeros
@@ -30,7 +30,7 @@ sets-zeros numbers n l = rw sub-zero at (sym (filled-append n [] numbers (omega 
 pub ancestry-few : {board index : List ℕ} {items number : ℕ} → Kept board index items → 1 ≤ number → number ≤ items
     → length (ancestry (before board items) number) ≤ number
 ancestry-few {board} {items = items} {number = number} kept some few =
-    line-length (ancestry-line (kept .passed) number some (omega (arith, length-history base board items)))
+    line-length (ancestry-line (kept .passed) number some (omega (arith, length-history (formatOf board) board items)))
 
 module _ (board : List ℕ) (items number : ℕ) (list : List ℕ) (zeros : list ≡ replicate (length list) 0) where
   abbrev h : History
@@ -44,7 +44,7 @@ module _ (board : List ℕ) (items number : ℕ) (list : List ℕ) (zeros : list
   none-such : T (outside number (length h)) → Answered (unlisted noSuchItem items) list
   unfolding ancestryAnswer tableAfter written filled
   none-such t = (
-    sym (if-yes (outside number (length h)) _ _ t ∙ ap (unlisted noSuchItem) (length-history base board items)),
+    sym (if-yes (outside number (length h)) _ _ t ∙ ap (unlisted noSuchItem) (length-history (formatOf board) board items)),
     zeros ∙ sym (rw (if-yes (outside number (length h)) [] (ancestry h number) t, sub-zero)),
   )
 
@@ -52,13 +52,13 @@ module _ (board : List ℕ) (items number : ℕ) (list : List ℕ) (zeros : list
   none-zero z = none-such (or-left (eqb number 0) _ (eq→eqb number 0 z))
 
   pub none-past : items < number → Answered (unlisted noSuchItem items) list
-  none-past l = none-such (or-right (eqb number 0) _ (lt→ltb (length h) number (omega (arith, length-history base board items))))
+  none-past l = none-such (or-right (eqb number 0) _ (lt→ltb (length h) number (omega (arith, length-history (formatOf board) board items))))
 
   some-asked : {index : List ℕ} → Kept board index items → number ≢ 0 → number ≤ items → listNeed ≤ length list → {n : ℕ} {after : List ℕ}
       → n ≡ 0 + length (ancestry h number) → after ≡ sets list 0 (ancestry h number) → Answered (listed n) after
   unfolding ancestryAnswer tableAfter written
   some-asked kept z l long e s =
-      let there : T (not (outside number (length h))) = simp neither (omega (arith, tests, length-history base board items)) in
+      let there : T (not (outside number (length h))) = simp neither (omega (arith, tests, length-history (formatOf board) board items)) in
       let few = ancestry-few kept (omega arith) l in
       let most = kept .few in (
         ap listed (e ∙ zero-add _) ∙ sym (if-no (outside number (length h)) _ _ there),

@@ -19,7 +19,7 @@ use Rattle.model.proofs.Unchecked.{length-history, passed-history, sound-histor
 use Rattle.model.proofs.Report.{tables-keep}
 use Rattle.refusal.specs.Number.{numberOf}
 use Rattle.refusal.specs.declared.Refusal.{Refusal}
-use Rattle.format.specs.Base.{base}
+use Rattle.format.specs.Format.{formatOf}
 use Rattle.index.specs.Kept.{before, Kept}
 use Rattle.index.proofs.Items.{passed-anyone}
 use Rattle.tally.specs.Tallied.{Tallied}
@@ -31,12 +31,13 @@ use Rattle.report.specs.Reported.{answered, reported}
 use Rattle.audit.proofs.Whole.{Audited, outcome, refused-number, accepted-number}
 
 -- a sound board, and a table with the rows of its items
-sound-kept : {board verdicts roll : List ℕ} {h : History} → Sound base board verdicts roll h → (i : List ℕ) → i ≡ filled (length i) (indexRows h 0 h)
+sound-kept : {board verdicts roll : List ℕ} {h : History} → Sound (formatOf board) board verdicts roll h → (i : List ℕ) → i ≡ filled (length i) (indexRows h 0 h)
     → indexNeed ≤ length i → Kept board i (length h)
 sound-kept {board} {verdicts} {h} s i rows room =
     let closing : List ℕ = closingWord (length h) ∷ [] in
     let same : before board (length h) ≡ h = sym (sound-history s) in
-    let place : placeOf base board (length h) ≡ length (s .words) = rw (s .closed) (passed-history (s .passed) closing .1) in
+    let place : placeOf (formatOf board) board (length h) ≡ length (s .words) =
+    ap (λ (ws : List ℕ). placeOf (formatOf board) ws (length h)) (s .closed) ∙ passed-history (s .passed) closing .1 in
     let long : length board ≡ length (s .words) + 1 = rw (s .closed) (length-append (s .words) closing) in
     let words : take (length (s .words)) board ≡ s .words = rw (s .closed) (take-at (s .words) closing (length (s .words)) refl) in
     record {
@@ -62,14 +63,14 @@ module _ (board verdicts roll index ballots : List ℕ) (r : Report) {i b : List
     unfolding reportOf
     accepted-is (unread m) e =
         let number = sym (accepted-number r answer) ∙ ap (λ (t : model.Report). t .number) (rw e at (a .0)) in
-        let some = unread-some base board verdicts roll (length index) (length ballots) m e in
+        let some = unread-some (formatOf board) board verdicts roll (length index) (length ballots) m e in
         absurd (omega arith)
     accepted-is (refused m k) e =
         let number = sym (accepted-number r answer) ∙ ap (λ (t : model.Report). t .number) (rw e at (a .0)) in
-        let some = refused-some base board verdicts roll (length index) (length ballots) m k e in
+        let some = refused-some (formatOf board) board verdicts roll (length index) (length ballots) m k e in
         absurd (omega arith)
     accepted-is (accepted h) e =
-        let sound : Sound base board verdicts roll h = accepted↔sound base board verdicts roll (length index) (length ballots) h .0 e .0 in
+        let sound : Sound (formatOf board) board verdicts roll h = accepted↔sound (formatOf board) board verdicts roll (length index) (length ballots) h .0 e .0 in
         let same : items ≡ length h =
         sym (ap (λ (x : Answer). answered x (r .end) .items) answer) ∙ ap (λ (t : model.Report). t .items) (rw e at (a .0)) in
         ap accepted (sound-history sound ∙ ap (before board) (sym same))
@@ -78,20 +79,20 @@ module _ (board verdicts roll index ballots : List ℕ) (r : Report) {i b : List
     accepted-outcome = accepted-is (outcome board verdicts roll index ballots) refl
 
     -- "a board is accepted if and only if it is sound", and the tables are long enough
-    accepted-all : Sound base board verdicts roll (before board items) × (indexNeed ≤ length index) × (ballotNeed ≤ length ballots)
-    accepted-all = accepted↔sound base board verdicts roll (length index) (length ballots) (before board items) .0 accepted-outcome
+    accepted-all : Sound (formatOf board) board verdicts roll (before board items) × (indexNeed ≤ length index) × (ballotNeed ≤ length ballots)
+    accepted-all = accepted↔sound (formatOf board) board verdicts roll (length index) (length ballots) (before board items) .0 accepted-outcome
 
-    pub accepted-sound : Sound base board verdicts roll (before board items)
+    pub accepted-sound : Sound (formatOf board) board verdicts roll (before board items)
     accepted-sound = accepted-all .0
 
     -- so do its index rows, and its ballot rows
     length-after : (length i ≡ length index) × (length b ≡ length ballots)
     length-after =
-        let keep = tables-keep base board verdicts roll index ballots in
+        let keep = tables-keep (formatOf board) board verdicts roll index ballots in
         (ap length (a .1 .0) ∙ keep .0, ap length (a .1 .1) ∙ keep .1)
 
     items-are : length (before board items) ≡ items
-    items-are = length-history base board items
+    items-are = length-history (formatOf board) board items
 
     pub accepted-kept : Kept board i items
     unfolding tableAfter
@@ -108,14 +109,14 @@ module _ (board verdicts roll index ballots : List ℕ) (r : Report) {i b : List
         record { rows = rw (← long) at rows; room = rw long (accepted-all .2) }
 
     -- what is told of the main items and of the counted ballots
-    told : reported r ≡ reportOf base (accepted (before board items))
+    told : reported r ≡ reportOf (formatOf board) (accepted (before board items))
     told = rw accepted-outcome at (a .0)
 
     pub accepted-mains : mains ≡ count main (before board items)
     unfolding reportOf
     accepted-mains = sym (ap (λ (x : Answer). answered x (r .end) .mains) answer) ∙ ap (λ (t : model.Report). t .mains) told
 
-    pub accepted-end : r .end ≡ endAddress base (before board items)
+    pub accepted-end : r .end ≡ endAddress (formatOf board) (before board items)
     unfolding reportOf
     accepted-end = sym (ap (λ (x : Answer). answered x (r .end) .end) answer) ∙ ap (λ (t : model.Report). t .end) told
 

@@ -23,7 +23,7 @@ use Rattle.model.proofs.Unchecked.{length-history}
 use Rattle.refusal.specs.Number.{numberOf, foundOf}
 use Rattle.refusal.specs.declared.Refusal.{Refusal}
 use Rattle.refusal.specs.declared.Finding.the-variants.{Passes, Fails}
-use Rattle.format.specs.Base.{base}
+use Rattle.format.specs.Format.{formatOf}
 use Rattle.format.specs.Layout.{headOf}
 use Rattle.format.specs.declared.head.Head.{Head}
 use Rattle.index.specs.Kept.{before, Kept}
@@ -75,12 +75,12 @@ module _ {board index ballots : List ℕ} (sized : Sized board index ballots) wh
 module _ (board verdicts roll : List ℕ) where
   -- the answer
   abbrev pub answer : Outcome
-  answer = items base (onRoll roll) board verdicts itemLimit [] 0
+  answer = items (formatOf board) (onRoll roll) board verdicts itemLimit [] 0
 
   -- the audit stands behind the first s .items items, the answer is the same from there on, and the tables keep their lengths
   pub record Going (index₀ ballots₀ parents₀ sessions₀ index ballots parents sessions : List ℕ) (s : State) : Type 0 where
     pub reached : Reached board index ballots parents sessions s
-    pub same : answer ≡ itemsFrom base (onRoll roll) board verdicts (s .items)
+    pub same : answer ≡ itemsFrom (formatOf board) (onRoll roll) board verdicts (s .items)
     pub index-size : length index ≡ length index₀
     pub ballots-size : length ballots ≡ length ballots₀
     pub parents-size : length parents ≡ length parents₀
@@ -97,7 +97,7 @@ module _ (board verdicts roll : List ℕ) where
       parents = rw none (chains .0);
       sessions = rw none (chains .1);
     };
-    same = rw none (items-start base (onRoll roll) board verdicts);
+    same = rw none (items-start (formatOf board) (onRoll roll) board verdicts);
     index-size = refl;
     ballots-size = refl;
     parents-size = refl;
@@ -106,21 +106,21 @@ module _ (board verdicts roll : List ℕ) where
 
   -- the tables at the closing word
   closing-holds : (index ballots : List ℕ) (n p : ℕ) → Kept board index n → Tallied board ballots n
-      → Holds board (closing base board verdicts (before board n) p) index ballots
+      → Holds board (closing (formatOf board) board verdicts (before board n) p) index ballots
   unfolding closing
   closing-holds index ballots n p kept tallied =
       let Goal : Outcome → Type 0 = λ o. Holds board o index ballots in
       let held : Kept board index (length (before board n)) × Tallied board ballots (length (before board n)) =
-      rw (length-history base board n) (kept, tallied) in
+      rw (length-history (formatOf board) board n) (kept, tallied) in
       by-if Goal (not (closingOk board verdicts (before board n) p)) _ _ (λ t. held) (λ t. held)
 
   module _ {index₀ ballots₀ parents₀ sessions₀ index ballots parents sessions : List ℕ} {s : State}
       (g : Going index₀ ballots₀ parents₀ sessions₀ index ballots parents sessions s) where
     -- what `run` ensures
     abbrev Ran : Report → List ℕ → List ℕ → Type 0
-    Ran r i b = (reported r ≡ reportOf base answer) × Holds board answer i b
+    Ran r i b = (reported r ≡ reportOf (formatOf board) answer) × Holds board answer i b
 
-    stopped : (o : Outcome) → itemsFrom base (onRoll roll) board verdicts (s .items) ≡ o → (r : Report) → reported r ≡ reportOf base o
+    stopped : (o : Outcome) → itemsFrom (formatOf board) (onRoll roll) board verdicts (s .items) ≡ o → (r : Report) → reported r ≡ reportOf (formatOf board) o
         → (i b : List ℕ) → Holds board o i b → Ran r i b
     stopped o e r told i b held =
         let all : answer ≡ o = g .same ∙ e in
@@ -129,41 +129,41 @@ module _ (board verdicts roll : List ℕ) where
     holds-here : (n : ℕ) → Holds board (refused n (s .items)) index ballots
     holds-here n = (g .reached .kept, g .reached .tallied)
 
-    place-is : s .place ≡ placeOf base board (s .items)
+    place-is : s .place ≡ placeOf (formatOf board) board (s .items)
     place-is = g .reached .stands .place
 
-    pub stop-ended : length board ≤ s .place → (r : Report) → reported r ≡ reportOf base (refused truncated (s .items)) → Ran r index ballots
+    pub stop-ended : length board ≤ s .place → (r : Report) → reported r ≡ reportOf (formatOf board) (refused truncated (s .items)) → Ran r index ballots
     stop-ended l r told =
-        stopped _ (items-ended base (onRoll roll) board verdicts (s .items) (rw place-is at l)) r told index ballots (holds-here truncated)
+        stopped _ (items-ended (formatOf board) (onRoll roll) board verdicts (s .items) (rw place-is at l)) r told index ballots (holds-here truncated)
 
     module _ (there : s .place < length board) {head : Head} (is : head ≡ headOf (getD board (s .place) 0)) where
-      kind-is : head .kind ≡ kindOf (getD board (placeOf base board (s .items)) 0)
+      kind-is : head .kind ≡ kindOf (getD board (placeOf (formatOf board) board (s .items)) 0)
       kind-is = ap (λ (h : Head). h .kind) is ∙ rw place-is
 
       pub stop-closing : head .kind ≡ 15 → (r : Report)
-          → reported r ≡ reportOf base (closing base board verdicts (before board (s .items)) (s .place)) → Ran r index ballots
+          → reported r ≡ reportOf (formatOf board) (closing (formatOf board) board verdicts (before board (s .items)) (s .place)) → Ran r index ballots
       stop-closing k r told =
-          stopped _ (items-closing base (onRoll roll) board verdicts (s .items) (rw place-is at there) (eq→eqb _ _ (sym kind-is ∙ k))) r (rw place-is at told) index ballots
+          stopped _ (items-closing (formatOf board) (onRoll roll) board verdicts (s .items) (rw place-is at there) (eq→eqb _ _ (sym kind-is ∙ k))) r (rw place-is at told) index ballots
           (closing-holds index ballots (s .items) _ (g .reached .kept) (g .reached .tallied))
 
       module _ (head-word : head .kind ≡ 15 → ⊥) where
-        item-word : T (not (isClosing (getD board (placeOf base board (s .items)) 0)))
+        item-word : T (not (isClosing (getD board (placeOf (formatOf board) board (s .items)) 0)))
         item-word = ne→neqb _ _ (λ q. head-word (kind-is ∙ q))
 
-        pub stop-full : s .items ≡ 2048 → (r : Report) → reported r ≡ reportOf base (refused tooLarge (s .items)) → Ran r index ballots
+        pub stop-full : s .items ≡ 2048 → (r : Report) → reported r ≡ reportOf (formatOf board) (refused tooLarge (s .items)) → Ran r index ballots
         stop-full q r told =
-            stopped _ (items-full base (onRoll roll) board verdicts (s .items) (rw place-is at there) item-word (omega arith)) r told index ballots (holds-here tooLarge)
+            stopped _ (items-full (formatOf board) (onRoll roll) board verdicts (s .items) (rw place-is at there) item-word (omega arith)) r told index ballots (holds-here tooLarge)
 
         module _ (few : s .items < itemLimit) {index′ ballots′ parents′ sessions′ : List ℕ} {step : Step}
             (stepped : Stepped board verdicts roll index ballots parents sessions index′ ballots′ parents′ sessions′ s step) where
-          pub stop-refused : (x : Refusal) → step .finding ≡ Fails x → (r : Report) → reported r ≡ reportOf base (refused (numberOf x) (s .items))
+          pub stop-refused : (x : Refusal) → step .finding ≡ Fails x → (r : Report) → reported r ≡ reportOf (formatOf board) (refused (numberOf x) (s .items))
               → Ran r index′ ballots′
           stop-refused x q r told =
               let number : foundOf (step .finding) ≡ numberOf x = ap foundOf q in
               let fails : numberOf x ≡ noFault → ⊥ = λ n. absurd (omega (arith, number-some x)) in
               let (stay, same-index, same-ballots, same-parents, same-sessions) = stepped .failed (λ n. fails (sym number ∙ n)) in
               rw (same-index, same-ballots)
-              (stopped _ (items-refused base (onRoll roll) board verdicts (s .items) (rw place-is at there) item-word few (numberOf x) (rw place-is at (sym (stepped .finding) ∙ number)) fails)
+              (stopped _ (items-refused (formatOf board) (onRoll roll) board verdicts (s .items) (rw place-is at there) item-word few (numberOf x) (rw place-is at (sym (stepped .finding) ∙ number)) fails)
               r told index ballots (holds-here (numberOf x)))
 
           pub going-on : step .finding ≡ Passes → length index′ ≡ length index → length ballots′ ≡ length ballots
@@ -174,7 +174,7 @@ module _ (board verdicts roll : List ℕ) where
               let (next, reached) = stepped .passed none in
               record {
                 reached = reached;
-                same = g .same ∙ items-passed base (onRoll roll) board verdicts (s .items) (rw place-is at there) item-word few (rw place-is at (sym (stepped .finding) ∙ none)) ∙ rw (next, add-one);
+                same = g .same ∙ items-passed (formatOf board) (onRoll roll) board verdicts (s .items) (rw place-is at there) item-word few (rw place-is at (sym (stepped .finding) ∙ none)) ∙ rw (next, add-one);
                 index-size = li ∙ g .index-size;
                 ballots-size = lb ∙ g .ballots-size;
                 parents-size = lp ∙ g .parents-size;

@@ -17,7 +17,7 @@ use Rattle.model.proofs.Unchecked.{accepted-history}
 use Rattle.refusal.specs.Number.{numberOf}
 use Rattle.chains.specs.Chain.{chainWords, chain}
 use Rattle.refusal.specs.declared.Refusal.{Refusal}
-use Rattle.format.specs.Base.{base}
+use Rattle.format.specs.Format.{formatOf}
 use Rattle.index.specs.Kept.{before}
 use Rattle.refusal.proofs.Laws.{number-some}
 use Rattle.report.specs.declared.Report.{Report}
@@ -43,15 +43,15 @@ accepted-number r e = ap (λ (a : Answer). answered a (r .end) .number) e
 
 module _ (board verdicts roll index ballots : List ℕ) where
   abbrev pub outcome : Outcome
-  outcome = audit base board verdicts roll (length index) (length ballots)
+  outcome = audit (formatOf board) board verdicts roll (length index) (length ballots)
 
   -- what the items give
   abbrev answer : Outcome
-  answer = items base (onRoll roll) board verdicts itemLimit [] 0
+  answer = items (formatOf board) (onRoll roll) board verdicts itemLimit [] 0
 
   -- what `audit` ensures of its report and of the tables after it
   abbrev pub Audited : Report → List ℕ → List ℕ → Type 0
-  Audited r i b = (reported r ≡ reportOf base outcome) × ((i ≡ indexAfter outcome index) × (b ≡ ballotsAfter outcome ballots))
+  Audited r i b = (reported r ≡ reportOf (formatOf board) outcome) × ((i ≡ indexAfter outcome index) × (b ≡ ballotsAfter outcome ballots))
 
   -- ---- 1 and 2
 
@@ -68,7 +68,7 @@ module _ (board verdicts roll index ballots : List ℕ) where
   audit-short-ballots l i b = rw (le-ltb _ _ l, le-ltb _ _ i, lt-ltb _ _ b)
 
   -- they change no table
-  pub audited-unread : (n : ℕ) → outcome ≡ unread n → (r : Report) → reported r ≡ reportOf base (refused n 0) → Audited r index ballots
+  pub audited-unread : (n : ℕ) → outcome ≡ unread n → (r : Report) → reported r ≡ reportOf (formatOf board) (refused n 0) → Audited r index ballots
   unfolding reportOf tableAfter
   audited-unread n o r told = rw o (told, (refl, refl))
 
@@ -88,7 +88,7 @@ module _ (board verdicts roll index ballots : List ℕ) where
     unfolding audit if_then_else_
     audit-roll q = rw (le-ltb _ _ (sized .fewWords), le-ltb _ _ (sized .wide), le-ltb _ _ (sized .roomy), q)
 
-    pub audited-roll : isBadRoll roll ≡ true → (r : Report) → reported r ≡ reportOf base (refused badRoll 0) → {i b : List ℕ}
+    pub audited-roll : isBadRoll roll ≡ true → (r : Report) → reported r ≡ reportOf (formatOf board) (refused badRoll 0) → {i b : List ℕ}
         → i ≡ replicate (length index) 0 → b ≡ replicate (length ballots) 0 → Audited r i b
     unfolding tableAfter
     audited-roll q r told ei eb = rw (audit-roll q) (told, (ei, eb))
@@ -100,7 +100,7 @@ module _ (board verdicts roll index ballots : List ℕ) where
     unfolding audit if_then_else_
     audit-empty q = rw (le-ltb _ _ (sized .fewWords), le-ltb _ _ (sized .wide), le-ltb _ _ (sized .roomy), good, q)
 
-    pub audited-empty : isEmpty board ≡ true → (r : Report) → reported r ≡ reportOf base (refused emptyBoard 0) → {i b : List ℕ}
+    pub audited-empty : isEmpty board ≡ true → (r : Report) → reported r ≡ reportOf (formatOf board) (refused emptyBoard 0) → {i b : List ℕ}
         → i ≡ replicate (length index) 0 → b ≡ replicate (length ballots) 0 → Audited r i b
     unfolding tableAfter
     audited-empty q r told ei eb = rw (audit-empty q) (told, (ei, eb))
@@ -111,7 +111,7 @@ module _ (board verdicts roll index ballots : List ℕ) where
     unfolding audit if_then_else_
     audit-items q = rw (le-ltb _ _ (sized .fewWords), le-ltb _ _ (sized .wide), le-ltb _ _ (sized .roomy), good, q)
 
-    cleared : (o : Outcome) (i b : List ℕ) → Holds board o i b → (r : Report) → reported r ≡ reportOf base o
+    cleared : (o : Outcome) (i b : List ℕ) → Holds board o i b → (r : Report) → reported r ≡ reportOf (formatOf board) o
         → {x : Refusal} {k : ℕ} → r .answer ≡ Refused x k
         → (indexAfter o index ≡ replicate (length index) 0) × (ballotsAfter o ballots ≡ replicate (length ballots) 0)
     unfolding tableAfter reportOf
@@ -123,28 +123,28 @@ module _ (board verdicts roll index ballots : List ℕ) where
 
     -- a refusal, and both tables are cleared
     pub audited-cleared : isEmpty board ≡ false → (i b : List ℕ) → Holds board answer i b
-        → (r : Report) → reported r ≡ reportOf base answer → {x : Refusal} {k : ℕ} → r .answer ≡ Refused x k
+        → (r : Report) → reported r ≡ reportOf (formatOf board) answer → {x : Refusal} {k : ℕ} → r .answer ≡ Refused x k
         → {i′ b′ : List ℕ} (m n : ℕ) → i′ ≡ replicate m 0 → b′ ≡ replicate n 0 → m ≡ length index → n ≡ length ballots → Audited r i′ b′
     audited-cleared q i b held r told a m n ei eb em en =
         let (ci, cb) = cleared answer i b held r told a in
         rw (audit-items q) (told, (rw em at ei ∙ sym ci, rw en at eb ∙ sym cb))
 
-    filled-tables : (o : Outcome) → outcome ≡ o → (i b : List ℕ) → Holds board o i b → (r : Report) → reported r ≡ reportOf base o
+    filled-tables : (o : Outcome) → outcome ≡ o → (i b : List ℕ) → Holds board o i b → (r : Report) → reported r ≡ reportOf (formatOf board) o
         → {items mains n weight : ℕ} → r .answer ≡ Accepted items mains n weight → length i ≡ length index → length b ≡ length ballots
         → (i ≡ indexAfter o index) × (b ≡ ballotsAfter o ballots)
     unfolding tableAfter reportOf
     filled-tables (unread n) e i b held r told a li lb = absurd held
     filled-tables (refused n k) e i b held r told a li lb =
         let number = sym (accepted-number r a) ∙ ap (λ (m : model.Report). m .number) told in
-        let some = refused-some base board verdicts roll (length index) (length ballots) n k e in
+        let some = refused-some (formatOf board) board verdicts roll (length index) (length ballots) n k e in
         absurd (omega arith)
     filled-tables (accepted h) e i b held r told a li lb =
-        let same : before board (length h) ≡ h = sym (accepted-history base board verdicts roll (length index) (length ballots) h e) in
+        let same : before board (length h) ≡ h = sym (accepted-history (formatOf board) board verdicts roll (length index) (length ballots) h e) in
         (rw (same, li) at (held .0 .rows), rw (same, lb) at (held .1 .rows))
 
     -- acceptance, and the tables hold the rows
     pub audited-filled : isEmpty board ≡ false → (i b : List ℕ) → Holds board answer i b
-        → (r : Report) → reported r ≡ reportOf base answer → {items mains n weight : ℕ} → r .answer ≡ Accepted items mains n weight
+        → (r : Report) → reported r ≡ reportOf (formatOf board) answer → {items mains n weight : ℕ} → r .answer ≡ Accepted items mains n weight
         → length i ≡ length index → length b ≡ length ballots → Audited r i b
     audited-filled q i b held r told a li lb =
         let is = audit-items q in

@@ -1,7 +1,7 @@
 // The audit of a board: a report, and the rows of the index table and of the ballot table.
 ghost use mathlib.Core.Path.{_≡_};
 ghost use Rattle.model.specs.Report.{reportOf, indexAfter, ballotsAfter};
-ghost use Rattle.format.specs.Base.{base};
+ghost use Rattle.format.specs.Format.{formatOf};
 ghost use Rattle.report.specs.Reported.{reported};
 ghost use Rattle.audit.specs.Outcome.{outcomeOf};
 use format::limit::Limit;
@@ -19,7 +19,7 @@ pub fn audit(
     index: &mut [u32],
     ballots: &mut [u32],
 ) -> Report
-    ensures answer { λ r. ⌜ reported r ≡ reportOf base (outcomeOf board verdicts roll index ballots) ⌝ }
+    ensures answer { λ r. ⌜ reported r ≡ reportOf (formatOf (now (board .entry))) (outcomeOf board verdicts roll index ballots) ⌝ }
     ensures index { λ _. ⌜ now (index .exit) ≡ indexAfter (outcomeOf board verdicts roll index ballots) (now (index .entry)) ⌝ }
     ensures ballots { λ _. ⌜ now (ballots .exit) ≡ ballotsAfter (outcomeOf board verdicts roll index ballots) (now (ballots .entry)) ⌝ }
 {

@@ -3,7 +3,7 @@ ghost use mathlib.Core.Path.{_≡_};
 ghost use Rattle.model.specs.Roll.{GoodRoll};
 ghost use Rattle.model.specs.Audit.{isEmpty};
 ghost use Rattle.model.specs.Report.{reportOf, indexAfter, ballotsAfter};
-ghost use Rattle.format.specs.Base.{base};
+ghost use Rattle.format.specs.Format.{formatOf};
 ghost use Rattle.lookup.specs.Buckets.{parentChain, sessionChain};
 ghost use Rattle.report.specs.Reported.{reported};
 ghost use Rattle.audit.specs.Outcome.{itemsOutcome, outcomeOf};
@@ -41,7 +41,7 @@ fn run(
     requires { ⌜ (Sized (now board) (now index) (now ballots)) × (Zeros (now index)) × (Zeros (now ballots)) ⌝ }
     requires { ⌜ (now parents ≡ parentChain (now board) 0) × (now sessions ≡ sessionChain (now board) 0) ⌝ }
     requires { ⌜ GoodRoll (now roll) ⌝ }
-    ensures answer { λ r. ⌜ reported r ≡ reportOf base (itemsOutcome board verdicts roll) ⌝ }
+    ensures answer { λ r. ⌜ reported r ≡ reportOf (formatOf (now (board .entry))) (itemsOutcome board verdicts roll) ⌝ }
     ensures tables { λ _. ⌜ Holds (now (board .entry)) (itemsOutcome board verdicts roll) (now (index .exit)) (now (ballots .exit)) ⌝ }
 {
     let mut s = State::new();
@@ -77,7 +77,7 @@ pub fn read(
     ballots: &mut [u32],
 ) -> Report
     requires { ⌜ Sized (now board) (now index) (now ballots) ⌝ }
-    ensures answer { λ r. ⌜ reported r ≡ reportOf base (outcomeOf board verdicts roll index ballots) ⌝ }
+    ensures answer { λ r. ⌜ reported r ≡ reportOf (formatOf (now (board .entry))) (outcomeOf board verdicts roll index ballots) ⌝ }
     ensures index { λ _. ⌜ now (index .exit) ≡ indexAfter (outcomeOf board verdicts roll index ballots) (now (index .entry)) ⌝ }
     ensures ballots { λ _. ⌜ now (ballots .exit) ≡ ballotsAfter (outcomeOf board verdicts roll index ballots) (now (ballots .entry)) ⌝ }
 {

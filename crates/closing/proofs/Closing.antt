@@ -17,7 +17,7 @@ use Rattle.model.specs.Counted.{counted, totalWeight}
 use Rattle.model.specs.Audit.{refused, accepted, closing, closingOk}
 use Rattle.model.specs.Report.{reportOf}
 use Rattle.model.proofs.Unchecked.{length-history}
-use Rattle.format.specs.Base.{base}
+use Rattle.format.specs.Format.{formatOf}
 use Rattle.format.specs.Layout.{itemOf}
 use Rattle.format.specs.declared.item.Item.{Item}
 use Rattle.index.specs.Kept.{before}
@@ -37,7 +37,7 @@ module _ (board verdicts : List ℕ) (s : State) where
   Closed = closingOk board verdicts (before board (s .items)) (s .place)
 
   number : {w : ℕ} → w ≡ word % 268435456 → eqb (word % 2 ^ 28) (length (before board (s .items))) ≡ eqb w (s .items)
-  number e = rw (length-history base board (s .items), e)
+  number e = rw (length-history (formatOf board) board (s .items), e)
 
   pub closed-number : {w : ℕ} → w ≡ word % 268435456 → (w ≡ s .items → ⊥) → false ≡ Closed
   closed-number e n = rw (number e, ne-eqb _ _ n)
@@ -47,7 +47,7 @@ module _ (board verdicts : List ℕ) (s : State) where
     closed-more n = rw (number e, eq-eqb _ _ same, ne-eqb _ _ n)
 
     pub closed-verdicts : s .place + 1 ≡ length board → eqb (9 * s .items) (length verdicts) ≡ Closed
-    closed-verdicts l = rw (number e, eq-eqb _ _ same, eq-eqb _ _ l, length-history base board (s .items))
+    closed-verdicts l = rw (number e, eq-eqb _ _ same, eq-eqb _ _ l, length-history (formatOf board) board (s .items))
 
 -- ---- the end address
 
@@ -78,22 +78,22 @@ module _ (board verdicts : List ℕ) (s : State) where
   abbrev h : History
   h = before board (s .items)
 
-  pub close-bad : closingOk board verdicts h (s .place) ≡ false → closing base board verdicts h (s .place) ≡ refused badClosing (s .items)
+  pub close-bad : closingOk board verdicts h (s .place) ≡ false → closing (formatOf board) board verdicts h (s .place) ≡ refused badClosing (s .items)
   unfolding closing if_then_else_
-  close-bad q = rw (q, length-history base board (s .items))
+  close-bad q = rw (q, length-history (formatOf board) board (s .items))
 
-  pub close-good : closingOk board verdicts h (s .place) ≡ true → closing base board verdicts h (s .place) ≡ accepted h
+  pub close-good : closingOk board verdicts h (s .place) ≡ true → closing (formatOf board) board verdicts h (s .place) ≡ accepted h
   unfolding closing if_then_else_
   close-good q = rw q
 
 pub accepted-report : {board : List ℕ} {s : State} → Stands board s → (weight : ℕ) (end : List ℕ)
-    → weight ≡ totalWeight (counted (before board (s .items))) → end ≡ endAddress base (before board (s .items))
-    → record { number = 0; items = s .items; mains = s .mains; end = end; ballots = s .ballots; weight = weight } ≡ reportOf base (accepted (before board (s .items)))
+    → weight ≡ totalWeight (counted (before board (s .items))) → end ≡ endAddress (formatOf board) (before board (s .items))
+    → record { number = 0; items = s .items; mains = s .mains; end = end; ballots = s .ballots; weight = weight } ≡ reportOf (formatOf board) (accepted (before board (s .items)))
 unfolding reportOf
 accepted-report {board} {s} stands weight end ew ee =
     λ j. record {
       number = 0;
-      items = sym (length-history base board (s .items)) j;
+      items = sym (length-history (formatOf board) board (s .items)) j;
       mains = stands .mains j;
       end = ee j;
       ballots = stands .ballots j;

@@ -2,9 +2,9 @@
 use Prim.Native.Nat.{ℕ}
 use mathlib.Core.List.{List}
 use Rattle.model.specs.Audit.{Outcome, closing}
-use Rattle.format.specs.Base.{base}
+use Rattle.format.specs.Format.{formatOf}
 use Rattle.index.specs.Kept.{before}
 use Rattle.state.specs.declared.State.{State}
 
 abbrev pub closingOutcome : (board verdicts : List ℕ) → State → Outcome
-closingOutcome board verdicts s = closing base board verdicts (before board (s .items)) (s .place)
+closingOutcome board verdicts s = closing (formatOf board) board verdicts (before board (s .items)) (s .place)

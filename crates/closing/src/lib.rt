@@ -6,7 +6,7 @@ ghost use Rattle.model.specs.Lists.{part};
 ghost use Rattle.model.specs.History.{endAddress};
 ghost use Rattle.model.specs.Audit.{closingOk};
 ghost use Rattle.model.specs.Report.{reportOf};
-ghost use Rattle.format.specs.Base.{base};
+ghost use Rattle.format.specs.Format.{formatOf};
 ghost use Rattle.index.specs.Kept.{before, Kept};
 ghost use Rattle.state.specs.Stands.{Stands};
 ghost use Rattle.tally.specs.Tallied.{Tallied};
@@ -54,7 +54,7 @@ fn eight_at(board: &[u32], at: usize) -> [u32; 8]
 // The address of the last main item; zeros where there is none.
 fn end_address(board: &[u32], index: &[u32], s: State) -> [u32; 8]
     requires { ⌜ (Kept (now board) (now index) (s .items)) × (Stands (now board) s) ⌝ }
-    ensures { λ r. ⌜ r ≡ endAddress base (before (now (board .entry)) (s .items)) ⌝ }
+    ensures { λ r. ⌜ r ≡ endAddress (formatOf (now (board .entry))) (before (now (board .entry)) (s .items)) ⌝ }
 {
     if s.last == 0 {
         return [0; Item::ADDRESS];
@@ -67,7 +67,8 @@ fn end_address(board: &[u32], index: &[u32], s: State) -> [u32; 8]
 pub fn close(board: &[u32], verdicts: &[u32], index: &[u32], ballots: &[u32], s: State) -> Report
     requires { ⌜ (Kept (now board) (now index) (s .items)) × (Stands (now board) s) × (Tallied (now board) (now ballots) (s .items)) ⌝ }
     requires { ⌜ s .place < length (now board) ⌝ }
-    ensures { λ r. ⌜ reported r ≡ reportOf base (closingOutcome (now (board .entry)) (now (verdicts .entry)) s) ⌝ }
+    ensures { λ r. ⌜ reported r ≡ reportOf (formatOf (now (board .entry)))
+        (closingOutcome (now (board .entry)) (now (verdicts .entry)) s) ⌝ }
 {
     // 18 bad close
     if !is_closed(board, verdicts, index, s) {

@@ -14,7 +14,7 @@ use Rattle.model.specs.Compare.{Comparison, compare}
 use Rattle.model.specs.Comparing.{ComparingAnswer, laterBoard, refusedBoard, compared, answerLater}
 use Rattle.model.proofs.Tests.{tests, neither, or-left, or-right, eq→eqb, if-yes, if-no}
 use Rattle.model.proofs.Unchecked.{length-history}
-use Rattle.format.specs.Base.{base}
+use Rattle.format.specs.Format.{formatOf}
 use Rattle.index.specs.Kept.{before, Kept}
 use Rattle.pairs.specs.Reading.{Numbered}
 use Rattle.compare.specs.Answer.{Accepted}
@@ -29,7 +29,7 @@ module _ (g : History) (later : List ℕ) (items mains number : ℕ) (all : main
   none-such : T (outside number (count main h)) → refusedBoard laterBoard noSuchItem items ≡ answerLater g (accepted h) number
   unfolding answerLater
   none-such t =
-      sym (if-yes (outside number (count main h)) _ _ t ∙ ap (refusedBoard laterBoard noSuchItem) (length-history base later items))
+      sym (if-yes (outside number (count main h)) _ _ t ∙ ap (refusedBoard laterBoard noSuchItem) (length-history (formatOf later) later items))
 
   pub none-zero : number ≡ 0 → refusedBoard laterBoard noSuchItem items ≡ answerLater g (accepted h) number
   none-zero z = none-such (or-left (eqb number 0) _ (eq→eqb number 0 z))

@@ -21,7 +21,7 @@ use Rattle.model.proofs.Acceptance.{unread-some}
 use Rattle.model.proofs.FirstReason.{firstNumber, first-number}
 use Rattle.model.proofs.ByNumber.{unread-reason}
 use Rattle.model.proofs.Listing.{too-large, short-buffer, as-audited}
-use Rattle.format.specs.Base.{base}
+use Rattle.format.specs.Format.{formatOf}
 use Rattle.audit.proofs.Laws.{RefusedAs, unchanged, cleared}
 use Rattle.entries.specs.Listing.{Sized}
 
@@ -55,15 +55,15 @@ left-by e number index ballots list l = rw e l
 
 module _ (board verdicts roll index ballots list : List ℕ) where
   abbrev outcome : Outcome
-  outcome = ancestryAudit base board verdicts roll (length index) (length ballots) (length list)
+  outcome = ancestryAudit (formatOf board) board verdicts roll (length index) (length ballots) (length list)
 
   pub large : wordLimit < length board → outcome ≡ unread tooLarge
-  large l = too-large base board verdicts roll (length index) (length ballots) (length list) (lt→ltb wordLimit (length board) l)
+  large l = too-large (formatOf board) board verdicts roll (length index) (length ballots) (length list) (lt→ltb wordLimit (length board) l)
 
   module _ (few : length board ≤ wordLimit) {r : Bool} (told : r ≡ (isShort (length index) (length ballots) || ltb (length list) listNeed)) where
     pub short : r ≡ true → outcome ≡ unread shortTable
     short q =
-        short-buffer base board verdicts roll (length index) (length ballots) (length list) (le→nltb wordLimit (length board) few)
+        short-buffer (formatOf board) board verdicts roll (length index) (length ballots) (length list) (le→nltb wordLimit (length board) few)
         (passes (sym told ∙ q))
 
     pub sized : r ≡ false → Sized board index ballots list
@@ -72,17 +72,17 @@ module _ (board verdicts roll index ballots list : List ℕ) where
         let each = simp neither at fits in
         record { few = few; wide = omega (arith, tests); roomy = omega (arith, tests); long = omega (arith, tests) }
 
-  pub audited : listNeed ≤ length list → outcome ≡ audit base board verdicts roll (length index) (length ballots)
-  audited l = as-audited base board verdicts roll (length index) (length ballots) (length list) l
+  pub audited : listNeed ≤ length list → outcome ≡ audit (formatOf board) board verdicts roll (length index) (length ballots)
+  audited l = as-audited (formatOf board) board verdicts roll (length index) (length ballots) (length list) l
 
 -- ---- the audit within these sizes
 
 module _ (board verdicts roll index ballots list : List ℕ) (s : Sized board index ballots list) where
-  not-unread : (n : ℕ) → audit base board verdicts roll (length index) (length ballots) ≡ unread n → ⊥
+  not-unread : (n : ℕ) → audit (formatOf board) board verdicts roll (length index) (length ballots) ≡ unread n → ⊥
   unfolding firstNumber startReasons if_then_else_
   not-unread n e =
-      let (reason, good, other) = unread-reason base board verdicts roll (length index) (length ballots) n .0 e in
-      let some = unread-some base board verdicts roll (length index) (length ballots) n e in
+      let (reason, good, other) = unread-reason (formatOf board) board verdicts roll (length index) (length ballots) n .0 e in
+      let some = unread-some (formatOf board) board verdicts roll (length index) (length ballots) n e in
       let large = le-ltb wordLimit (length board) (s .few) in
       let wide = le-ltb (length index) indexNeed (s .wide) in
       let roomy = le-ltb (length ballots) ballotNeed (s .roomy) in
@@ -91,7 +91,7 @@ module _ (board verdicts roll index ballots list : List ℕ) (s : Sized board in
       (λ b. by-test (isEmpty board) (λ q. other (sym (rw (b, q) at number))) (λ q. omega (arith, rw (b, q) at number)))
 
   -- a refusal comes after the tables are cleared
-  pub refused-late : {n k : ℕ} → RefusedAs (audit base board verdicts roll (length index) (length ballots)) n k
-      → audit base board verdicts roll (length index) (length ballots) ≡ refused n k
+  pub refused-late : {n k : ℕ} → RefusedAs (audit (formatOf board) board verdicts roll (length index) (length ballots)) n k
+      → audit (formatOf board) board verdicts roll (length index) (length ballots) ≡ refused n k
   refused-late {n} (unchanged e none) = absurd (not-unread n e)
   refused-late (cleared e) = e

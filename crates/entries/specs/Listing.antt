@@ -8,13 +8,13 @@ use lib.Dec.{ltb}
 use denote.Ref.{now}
 use Rattle.model.specs.Audit.{Outcome, wordLimit, indexNeed, ballotNeed, isShort}
 use Rattle.model.specs.Ancestry.{listNeed, ancestryAudit}
-use Rattle.format.specs.Base.{base}
+use Rattle.format.specs.Format.{formatOf}
 use Rattle.audit.specs.Outcome.{Slice}
 
 -- the outcome of a board with its verdicts and its roll, and the two tables and the list by their lengths
 abbrev pub listingOutcome : {A B C D E F : Type 0} → Slice A → Slice B → Slice C → Slice D → Slice E → Slice F → Outcome
 listingOutcome board verdicts roll index ballots list =
-    ancestryAudit base (now (board .entry)) (now (verdicts .entry)) (now (roll .entry))
+    ancestryAudit (formatOf (now (board .entry))) (now (board .entry)) (now (verdicts .entry)) (now (roll .entry))
     (length (now (index .entry))) (length (now (ballots .entry))) (length (now (list .entry)))
 
 -- "A shorter list sheet is 2, tested with the other sheets"

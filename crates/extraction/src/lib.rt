@@ -1,10 +1,10 @@
 // Check 13 for extraction: data and confirmation. Paper: "Content", "Counted ballots" (fingerprint).
 ghost use mathlib.Core.Path.{_≡_};
+ghost use mathlib.Core.List.{[], _∷_};
 ghost use lib.Dec.{ltb};
 ghost use Rattle.model.specs.Words.{allIn};
 ghost use Rattle.model.specs.Content.{fingerprintOk, trusteesOk};
-ghost use Rattle.format.specs.Base.{base};
-ghost use Rattle.index.specs.Kept.{before, itemAfter};
+ghost use Rattle.index.specs.Kept.{before, itemAfter, ruleAfter};
 ghost use Rattle.state.specs.Stands.{AtItem};
 ghost use Rattle.tally.specs.Tallied.{Tallied};
 ghost use Rattle.extraction.specs.Rules.{extractionOk};
@@ -20,7 +20,7 @@ use state::State;
 // The extraction's part of check 13.
 pub fn extraction_ok(board: &[u32], index: &[u32], ballots: &[u32], s: State, c: Known) -> bool
     requires { ⌜ (AtItem (now board) (now index) s c) × (Tallied (now board) (now ballots) (s .items)) ⌝ }
-    ensures { λ r. ⌜ r ≡ extractionOk base (before (now (board .entry)) (s .items)) (itemAfter (now (board .entry)) (s .items)) ⌝ }
+    ensures { λ r. ⌜ r ≡ ruleAfter extractionOk (now (board .entry)) (s .items) ⌝ }
 {
     if !fingerprint_ok(board, index, ballots, s, c) {
         return false;
@@ -31,7 +31,7 @@ pub fn extraction_ok(board: &[u32], index: &[u32], ballots: &[u32], s: State, c:
 // 33, extraction data: the fingerprint of the counted ballots.
 fn fingerprint_ok(board: &[u32], index: &[u32], ballots: &[u32], s: State, c: Known) -> bool
     requires { ⌜ (AtItem (now board) (now index) s c) × (Tallied (now board) (now ballots) (s .items)) ⌝ }
-    ensures { λ r. ⌜ r ≡ fingerprintOk base (before (now (board .entry)) (s .items)) (itemAfter (now (board .entry)) (s .items)) ⌝ }
+    ensures { λ r. ⌜ r ≡ ruleAfter fingerprintOk (now (board .entry)) (s .items) ⌝ }
 {
     if c.item.head.code != Head::EXTRACTION {
         return true;
@@ -61,7 +61,7 @@ fn trustees_ok(board: &[u32], index: &[u32], s: State, c: Known) -> bool
 
 // Whether every number of a set is below m.
 fn is_below(set: u32, m: u32) -> bool
-    ensures { λ r. ⌜ r ≡ allIn set (λ j. ltb j m) ⌝ }
+    ensures { λ r. ⌜ r ≡ allIn (set ∷ []) (λ j. ltb j m) ⌝ }
 {
     if m >= Range::TRUSTEES {
         return true;

@@ -7,7 +7,7 @@ use mathlib.Core.Bool.{true, false}
 use mathlib.Core.List.{List}
 use lib.ListN.{length, getD, List·getD-eq-default}
 use borrow.Author.Tests.{eq-eqb, ne-eqb}
-use lib.Count.{ones}
+use lib.Count.{ones, ones-le}
 use lib.Dec.{eqb}
 use Rattle.model.specs.Lists.{part}
 use Rattle.model.specs.Words.{pair}
@@ -23,7 +23,6 @@ use Rattle.index.specs.Known.{IsKnown}
 use Rattle.index.proofs.Reading.{known-item}
 use Rattle.state.specs.declared.State.{State}
 use Rattle.state.specs.Stands.{AtItem}
-use Rattle.state.proofs.Sets.{size-ones, size-few}
 use Rattle.state.proofs.At.{at-code, at-places, at-content-words}
 use Rattle.words.proofs.Runs.{getD-part, pair-part}
 
@@ -55,11 +54,14 @@ module _ (h : History) (k : ℕ) where
   word-after (suc n) l = no-word (entry h (suc n)) (List·getD-eq-default h absent (omega arith))
 
 module _ {board : List ℕ} {e : Entry} {r : Known} (is : IsKnown board e r) where
+  pub known-content : part (r .item .content) (r .item .head .count) board ≡ e .item .content
+  known-content =
+      ap (λ (i : layout.Item). part (i .content) (i .head .count) board) (known-item is)
+      ∙ content-is board (e .place)
+      ∙ ap (λ (i : Item). i .content) (sym (is .item))
+
   pub known-content-word : (k : ℕ) → getD (part (r .item .content) (r .item .head .count) board) k 0 ≡ word k (e .item)
-  known-content-word k =
-      ap (λ (i : layout.Item). getD (part (i .content) (i .head .count) board) k 0) (known-item is)
-      ∙ ap (λ (l : List ℕ). getD l k 0) (content-is board (e .place))
-      ∙ ap (λ (i : Item). word k i) (sym (is .item))
+  known-content-word k = ap (λ (l : List ℕ). getD l k 0) known-content
 
 -- ---- the item that is judged
 
@@ -83,4 +85,4 @@ module _ {board index : List ℕ} {s : State} {c : Known} (a : AtItem board inde
 -- ---- sets
 
 pub ones-few : (w : ℕ) → w < 2 ^ 32 → ones w ≤ 32
-ones-few w l = rw (size-ones w l) (size-few w)
+ones-few w l = ones-le 32 w l

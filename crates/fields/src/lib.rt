@@ -27,26 +27,25 @@ impl Content {
     // An authorizer: the mode.
     pub const MODE: usize = 0;
 
-    // A round: its number, its contests, its start and its end.
+    // A genesis: its traits, where it has such a word.
+    pub const TRAITS: usize = Size::GENESIS;
+
+    // A round: its number, and its contests up to its start and end.
     pub const ROUND: usize = 0;
 
     pub const ROUND_CONTESTS: usize = 1;
 
-    pub const START: usize = 2;
-
-    pub const END: usize = Content::START + Item::TIME;
-
-    // A session: its voter, its weight and its contests.
+    // A session: its voter, its weight and, up to its end, its contests.
     pub const VOTER: usize = 0;
 
     pub const WEIGHT: usize = 1;
 
-    pub const SESSION_CONTESTS: usize = 2 + Size::KEY + Size::FINGERPRINT;
+    pub const SESSION_CONTESTS: usize = Size::SESSION;
 
     // A commitment: its last word.
     pub const COMMITMENT_END: usize = Size::COMMITMENT - 1;
 
-    // A ballot: its contests. A confirmation: its trustees.
+    // A confirmation: its trustees.
     pub const SET: usize = 0;
 }
 

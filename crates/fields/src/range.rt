@@ -2,9 +2,6 @@
 pub struct Range {}
 
 impl Range {
-    // The last number of a contest.
-    pub const CONTEST: u32 = 31;
-
     // The most trustees.
     pub const TRUSTEES: u32 = 32;
 

@@ -1,49 +1,65 @@
--- Counts of content words: 1 + k times a size, tested with no product. Assumes nothing.
+-- Counts of content words: a set of w words and k times a size, tested with no sum and no product. Assumes nothing.
 use Prim.Native.Nat.{ℕ, _+_, _-_, _*_, _/_, _%_, _≤_, _<_}
-use native.Mathlib.Nat.{div-add-mod', mul-le-mul-right, zero-mod}
+use native.Mathlib.Nat.{div-add-mod', mul-le-mul-right, mul-zero, zero-mod, mod-lt}
 use native.Mathlib.Omega.{arith}
-use mathlib.Core.Path.{_≡_, ap, _∙_}
+use mathlib.Core.Path.{_≡_, sym, ap, _∙_}
 use mathlib.Core.Bool.{false}
 use mathlib.Core.Logic.{by-cases}
-use native.Mathlib.Decide.{decLe}
-use lib.Dec.{eqb, leb}
-use borrow.Author.Tests.{eq-eqb, ne-eqb, le-leb, lt-leb}
-use Rattle.model.specs.Types.{oneAndEach, fits}
+use native.Mathlib.Decide.{decLe, decLt}
+use lib.Dec.{eqb, ltb}
+use borrow.Author.Tests.{eq-eqb, ne-eqb, le-leb, lt-leb, lt-ltb, le-ltb}
+use Rattle.model.specs.Types.{setAndEach, fits}
 
-module _ (s n : ℕ) where
-  -- fewer than 1 + s
-  pub fits-few : n ≤ s → false ≡ fits (oneAndEach s) n
+module _ (w s n : ℕ) where
+  -- fewer than the set, or than a set and one part
+  pub fits-few : n < w → false ≡ fits (setAndEach w s) n
   unfolding fits
-  fits-few h = simp (lt-leb (1 + s) n (omega arith))
+  fits-few h = simp (lt-leb (w + s) n (omega arith))
 
-  -- a size of 0: only 1
-  pub fits-zero : s ≡ 0 → s < n → eqb (n - 1) 0 ≡ fits (oneAndEach s) n
+  pub fits-none : w ≤ n → n - w < s → false ≡ fits (setAndEach w s) n
   unfolding fits
-  fits-zero e h =
-      by-cases (decLe n 1)
-      (λ l.
-      let one : n - 1 ≡ 0 = omega arith in
-      let rest : (n - 1) % s ≡ 0 = ap (λ (k : ℕ). k % s) one ∙ zero-mod s in
-      simp (eq-eqb (n - 1) 0 one, le-leb (1 + s) n (omega arith), le-leb n (1 + 32 * s) (omega arith), eq-eqb ((n - 1) % s) 0 rest))
-      (λ l. simp (ne-eqb (n - 1) 0 (λ q. omega arith), le-leb (1 + s) n (omega arith), lt-leb n (1 + 32 * s) (omega arith)))
+  fits-none h l = simp (lt-leb (w + s) n (omega arith))
 
-  -- a multiple: at most 32 times
-  pub fits-each : s < n → 0 < s → (n - 1) % s ≡ 0 → leb ((n - 1) / s) 32 ≡ fits (oneAndEach s) n
-  unfolding fits
-  fits-each h z e =
-      let whole = div-add-mod' (n - 1) s in
-      by-cases (decLe ((n - 1) / s) 32)
-      (λ l.
-      let most : (n - 1) / s * s ≤ 32 * s = mul-le-mul-right s l in
-      simp (le-leb ((n - 1) / s) 32 l, le-leb (1 + s) n (omega arith), le-leb n (1 + 32 * s) (omega arith), eq-eqb ((n - 1) % s) 0 e))
-      (λ l.
-      let more : 33 * s ≤ (n - 1) / s * s = mul-le-mul-right s (omega arith) in
-      simp (lt-leb ((n - 1) / s) 32 (omega arith), le-leb (1 + s) n (omega arith), lt-leb n (1 + 32 * s) (omega arith)))
+  module _ (h : w ≤ n) (l : s ≤ n - w) where
+    -- a size of 0: only the set
+    pub fits-zero : s ≡ 0 → eqb (n - w) 0 ≡ fits (setAndEach w s) n
+    unfolding fits
+    fits-zero e =
+        let most : 32 * w * s ≡ 0 = ap (λ (k : ℕ). 32 * w * k) e ∙ mul-zero (32 * w) in
+        by-cases (decLe n w)
+        (λ l.
+        let none : n - w ≡ 0 = omega arith in
+        let rest : (n - w) % s ≡ 0 = ap (λ (k : ℕ). k % s) none ∙ zero-mod s in
+        simp (eq-eqb (n - w) 0 none, le-leb (w + s) n (omega arith), le-leb n (w + 32 * w * s) (omega arith), eq-eqb ((n - w) % s) 0 rest))
+        (λ l. simp (ne-eqb (n - w) 0 (λ q. omega arith), le-leb (w + s) n (omega arith), lt-leb n (w + 32 * w * s) (omega arith)))
 
-  -- no multiple
-  pub fits-not : s < n → ((n - 1) % s ≡ 0 → ⊥) → false ≡ fits (oneAndEach s) n
-  unfolding fits
-  fits-not h e =
-      by-cases (decLe n (1 + 32 * s))
-      (λ l. simp (le-leb (1 + s) n (omega arith), le-leb n (1 + 32 * s) l, ne-eqb ((n - 1) % s) 0 e))
-      (λ l. simp (le-leb (1 + s) n (omega arith), lt-leb n (1 + 32 * s) (omega arith)))
+    -- at least one part
+    pub some-parts : 0 < s → 1 ≤ (n - w) / s
+    some-parts z =
+        let k = (n - w) / s in
+        let split = div-add-mod' (n - w) s in
+        by-cases (decLe 1 k) (λ m. m) (λ m. let none : k ≡ 0 = omega arith in absurd (omega (arith, ap (_* s) none, mod-lt (n - w) z)))
+
+    -- a multiple: as often as the set has numbers
+    pub fits-each : 0 < s → (n - w) % s ≡ 0 → ltb (((n - w) / s - 1) / 32) w ≡ fits (setAndEach w s) n
+    unfolding fits
+    fits-each z e =
+        let k = (n - w) / s in
+        let whole = div-add-mod' (n - w) s in
+        by-cases (decLe k (32 * w))
+        (λ m.
+        let most : k * s ≤ 32 * w * s = mul-le-mul-right s m in
+        let some : 1 ≤ k = some-parts z in
+        simp (lt-ltb ((k - 1) / 32) w (omega arith), le-leb (w + s) n (omega arith), le-leb n (w + 32 * w * s) (omega arith), eq-eqb ((n - w) % s) 0 e))
+        (λ m.
+        let past : 32 * w + 1 ≤ k = omega arith in
+        let more = mul-le-mul-right s past in
+        simp (le-ltb ((k - 1) / 32) w (omega arith), le-leb (w + s) n (omega arith), lt-leb n (w + 32 * w * s) (omega arith)))
+
+    -- no multiple
+    pub fits-not : ((n - w) % s ≡ 0 → ⊥) → false ≡ fits (setAndEach w s) n
+    unfolding fits
+    fits-not e =
+        by-cases (decLe n (w + 32 * w * s))
+        (λ m. simp (le-leb (w + s) n (omega arith), le-leb n (w + 32 * w * s) m, ne-eqb ((n - w) % s) 0 e))
+        (λ m. simp (le-leb (w + s) n (omega arith), lt-leb n (w + 32 * w * s) (omega arith)))

@@ -11,7 +11,7 @@ use Rattle.model.specs.Words.{countOf, pair}
 use Rattle.model.specs.Format.{timeSize}
 use Rattle.model.specs.Item.{itemAt, itemLength, hashedLength, hashed, behind, word, time}
 use Rattle.model.proofs.Parts.{part-add, part-one}
-use Rattle.format.specs.Base.{base}
+use Rattle.format.specs.Format.{formatOf}
 use Rattle.format.specs.Layout.{headOf, itemOf}
 use Rattle.format.specs.declared.head.Head.{Head}
 use Rattle.format.specs.declared.item.Item.{Item}
@@ -34,12 +34,12 @@ pub laid-out : (ws : List ℕ) (p : ℕ) (h : Head) → h ≡ headOf (getD ws p 
 unfolding itemOf itemLength
 laid-out ws p h e =
     let n : h .count ≡ countOf (getD ws p 0) = ap (λ (g : Head). g .count) e in
-    let last : p + 1 + h .count + 8 + 8 + 2 + 16 + 8 ≡ behind base ws p = omega arith in
+    let last : p + 1 + h .count + 8 + 8 + 2 + 16 + 8 ≡ behind (formatOf ws) ws p = omega arith in
     λ i. laid p (e i) (last i)
 
 module _ (ws : List ℕ) (p : ℕ) where
   -- the place behind the item
-  pub end-is : itemOf ws p .end ≡ behind base ws p
+  pub end-is : itemOf ws p .end ≡ behind (formatOf ws) ws p
   unfolding itemOf
   end-is = refl
 
@@ -47,7 +47,7 @@ module _ (ws : List ℕ) (p : ℕ) where
   unfolding itemOf
   place-is = refl
 
-  pub head-is : itemOf ws p .head ≡ headOf (itemAt base ws p .head)
+  pub head-is : itemOf ws p .head ≡ headOf (itemAt (formatOf ws) ws p .head)
   unfolding itemOf itemAt
   head-is = refl
 
@@ -56,48 +56,48 @@ module _ (ws : List ℕ) (p : ℕ) where
   count-is = refl
 
   -- the parts
-  pub content-is : part (itemOf ws p .content) (itemOf ws p .head .count) ws ≡ itemAt base ws p .content
+  pub content-is : part (itemOf ws p .content) (itemOf ws p .head .count) ws ≡ itemAt (formatOf ws) ws p .content
   unfolding itemOf itemAt
   content-is = refl
 
-  pub parent-is : part (itemOf ws p .parent) (base .address) ws ≡ itemAt base ws p .parent
+  pub parent-is : part (itemOf ws p .parent) (formatOf ws .address) ws ≡ itemAt (formatOf ws) ws p .parent
   unfolding itemOf itemAt
   parent-is = refl
 
-  pub previous-is : part (itemOf ws p .previous) (base .address) ws ≡ itemAt base ws p .previous
+  pub previous-is : part (itemOf ws p .previous) (formatOf ws .address) ws ≡ itemAt (formatOf ws) ws p .previous
   unfolding itemOf itemAt
   previous-is = refl
 
-  pub stamp-is : part (itemOf ws p .time) timeSize ws ≡ itemAt base ws p .stamp
+  pub stamp-is : part (itemOf ws p .time) timeSize ws ≡ itemAt (formatOf ws) ws p .stamp
   unfolding itemOf itemAt
   stamp-is = refl
 
-  pub time-is : pair (part (itemOf ws p .time) timeSize ws) ≡ time (itemAt base ws p)
+  pub time-is : pair (part (itemOf ws p .time) timeSize ws) ≡ time (itemAt (formatOf ws) ws p)
   unfolding itemOf itemAt
   time-is = refl
 
-  pub signature-is : part (itemOf ws p .signature) (base .signature) ws ≡ itemAt base ws p .signature
+  pub signature-is : part (itemOf ws p .signature) (formatOf ws .signature) ws ≡ itemAt (formatOf ws) ws p .signature
   unfolding itemOf itemAt
   signature-is = refl
 
-  pub address-is : part (itemOf ws p .address) (base .address) ws ≡ itemAt base ws p .address
+  pub address-is : part (itemOf ws p .address) (formatOf ws .address) ws ≡ itemAt (formatOf ws) ws p .address
   unfolding itemOf itemAt
   address-is = refl
 
   -- the hashed words: from the place up to the signature
-  pub hashed-is : itemOf ws p .end ≤ length ws → part p (hashedLength base (itemOf ws p .head .count)) ws ≡ hashed (itemAt base ws p)
+  pub hashed-is : itemOf ws p .end ≤ length ws → part p (hashedLength (formatOf ws) (itemOf ws p .head .count)) ws ≡ hashed (itemAt (formatOf ws) ws p)
   unfolding itemOf itemAt itemLength hashedLength hashed
   hashed-is h = simp (part-add, append-assoc, ← add-assoc, part-one p ws 0 (omega arith))
 
-  pub signature-behind : itemOf ws p .signature ≡ p + hashedLength base (itemOf ws p .head .count)
+  pub signature-behind : itemOf ws p .signature ≡ p + hashedLength (formatOf ws) (itemOf ws p .head .count)
   unfolding itemOf hashedLength
   signature-behind = omega arith
 
   -- content word k
-  pub word-is : (k : ℕ) → k < itemOf ws p .head .count → word k (itemAt base ws p) ≡ getD ws (itemOf ws p .content + k) 0
+  pub word-is : (k : ℕ) → k < itemOf ws p .head .count → word k (itemAt (formatOf ws) ws p) ≡ getD ws (itemOf ws p .content + k) 0
   unfolding itemOf itemAt part
   word-is k h = rw (getD-take, getD-drop)
 
-  pub word-at : (k : ℕ) → k < countOf (getD ws p 0) → word k (itemAt base ws p) ≡ getD ws (p + 1 + k) 0
+  pub word-at : (k : ℕ) → k < countOf (getD ws p 0) → word k (itemAt (formatOf ws) ws p) ≡ getD ws (p + 1 + k) 0
   unfolding itemAt part
   word-at k h = rw (getD-take, getD-drop)

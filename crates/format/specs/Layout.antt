@@ -4,8 +4,9 @@ use Prim.Native.Nat.{ℕ}
 use mathlib.Core.List.{List}
 use lib.ListN.{getD}
 use Rattle.model.specs.Words.{kindOf, codeOf, countOf}
+use Rattle.model.specs.Item as model
 use Rattle.model.specs.Item.{contentAt, parentAt, previousAt, timeAt, signatureAt, addressAt, behind}
-use Rattle.format.specs.Base.{base}
+use Rattle.format.specs.Format.{formatOf}
 use Rattle.format.specs.declared.head.Head.{Head}
 use Rattle.format.specs.declared.item.Item.{Item}
 
@@ -22,9 +23,13 @@ itemOf ws p =
       head = headOf (getD ws p 0);
       content = contentAt p;
       parent = parentAt p n;
-      previous = previousAt base p n;
-      time = timeAt base p n;
-      signature = signatureAt base p n;
-      address = addressAt base p n;
-      end = behind base ws p;
+      previous = previousAt (formatOf ws) p n;
+      time = timeAt (formatOf ws) p n;
+      signature = signatureAt (formatOf ws) p n;
+      address = addressAt (formatOf ws) p n;
+      end = behind (formatOf ws) ws p;
     }
+
+-- the item itself, in the board's format
+abbrev pub itemOn : List ℕ → ℕ → model.Item
+itemOn ws p = model.itemAt (formatOf ws) ws p

@@ -7,7 +7,7 @@ use Rattle.format.specs.declared.table.Writer.the-variants.{Administrato
 use Rattle.format.specs.declared.table.ParentRule.{ParentRule}
 use Rattle.format.specs.declared.table.ParentRule.the-variants.{Zeros, LatestConfig, OfType}
 use Rattle.format.specs.declared.table.Counts.{Counts}
-use Rattle.format.specs.declared.table.Counts.the-variants.{FromTo, OneAndEach}
+use Rattle.format.specs.declared.table.Counts.the-variants.{FromTo, SetAndEach}
 use Rattle.format.specs.declared.table.Listing.{Listing}
 use Rattle.format.specs.declared.table.Listing.the-variants.{Listed, Unlisted}
 
@@ -25,7 +25,7 @@ parentRuleOf (OfType c) = types.ofType c
 
 abbrev pub countsOf : Counts → types.Counts
 countsOf (FromTo lo hi) = types.from_to_ lo hi
-countsOf (OneAndEach s) = types.oneAndEach s
+countsOf (SetAndEach w s) = types.setAndEach w s
 
 -- the row of a type: its kind and code are those that it was asked for
 abbrev pub rowOf : ℕ → ℕ → Listing → Option types.Row

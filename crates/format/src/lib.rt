@@ -1,4 +1,5 @@
-// The format of a board: head words, the places of an item's parts, limits, phases, sizes of contents, and the table of item types.
+// The format of a board: its widths, head words, where an item's parts stand, limits, phases, sizes of contents, the table of item types.
+pub mod format;
 pub mod head;
 pub mod item;
 pub mod limit;

@@ -17,8 +17,10 @@ impl Size {
     // What a trustee confirms.
     pub const SHARE: usize = 16;
 
-    // The election number and two keys.
+    // The election number and two keys, and these with a traits word.
     pub const GENESIS: usize = 1 + Size::KEY + Size::KEY;
+
+    pub const GENESIS_TRAITS: usize = Size::GENESIS + 1;
 
     // Trustees, threshold and a key.
     pub const THRESHOLD: usize = 2 + Size::KEY;
@@ -26,11 +28,11 @@ impl Size {
     // The mode and a key.
     pub const AUTHORIZER: usize = 1 + Size::KEY;
 
-    // Number, contests, start and end.
-    pub const ROUND: usize = 2 + Item::TIME + Item::TIME;
+    // Number, start and end; beside them a set of contests.
+    pub const ROUND: usize = 1 + Item::TIME + Item::TIME;
 
-    // Voter, weight, a key, a fingerprint and contests.
-    pub const SESSION: usize = 2 + Size::KEY + Size::FINGERPRINT + 1;
+    // Voter, weight, a key and a fingerprint; behind them a set of contests.
+    pub const SESSION: usize = 2 + Size::KEY + Size::FINGERPRINT;
 
     // The longest election text.
     pub const TEXT: usize = 64;

@@ -1,9 +1,12 @@
 // The table of item types.
 ghost use mathlib.Core.Path.{_≡_};
 ghost use Rattle.model.specs.Words.{mainKind, hiddenKind};
-ghost use Rattle.model.specs.Types.{oneAndEach, rowIn, table, fits};
-ghost use Rattle.format.specs.Base.{base};
+ghost use Prim.Native.Nat.{_≤_};
+ghost use Rattle.model.specs.Format as model;
+ghost use Rattle.model.specs.Types.{setAndEach, rowIn, table, fits};
+ghost use Rattle.format.specs.Format.{formatOf, formatWith};
 ghost use Rattle.format.specs.Table.{rowOf, countsOf};
+use crate::format::Format;
 use crate::head::Head;
 use crate::size::Size;
 
@@ -23,10 +26,10 @@ pub enum ParentRule {
     OfType(u32),
 }
 
-// The counts of content words: from one number to another, or 1 + k times a size, k in 1..32.
+// The counts of content words: from one number to another, or the words of a set and k times a size, k from 1 to what the set can hold.
 pub enum Counts {
     FromTo(usize, usize),
-    OneAndEach(usize),
+    SetAndEach(usize, usize),
 }
 
 pub struct Row {
@@ -41,9 +44,6 @@ pub enum Listing {
 }
 
 impl Counts {
-    // The most members of a set, and so the most parts of its size.
-    pub const SET: usize = 32;
-
     // Whether so many content words are in the table.
     pub fn fits(self, n: usize) -> bool
         ensures { λ r. ⌜ r ≡ fits (countsOf self) n ⌝ }
@@ -51,31 +51,37 @@ impl Counts {
         let counts = self;
         match counts {
             Counts::FromTo(low, high) => low <= n && n <= high,
-            Counts::OneAndEach(size) => one_and_each(size, n),
+            Counts::SetAndEach(words, size) => set_and_each(words, size, n),
         }
     }
 }
 
-// Whether n is 1 + k times a size, k in 1..32. No product is made, so any size will do.
-fn one_and_each(size: usize, n: usize) -> bool
-    ensures { λ r. ⌜ r ≡ fits (oneAndEach size) n ⌝ }
+// Whether n is the words of a set and k times a size, k from 1 to what the set can hold: number k - 1 stands in one of its words.
+// No sum and no product is made, so any words and any size will do.
+fn set_and_each(words: usize, size: usize, n: usize) -> bool
+    ensures { λ r. ⌜ r ≡ fits (setAndEach words size) n ⌝ }
 {
-    if n <= size {
+    if n < words {
         return false;
     }
-    let rest = n - 1;
+    let rest = n - words;
+    if rest < size {
+        return false;
+    }
     if size == 0 {
         return rest == 0;
     }
-    rest % size == 0 && rest / size <= Counts::SET
+    let k = rest / size;
+    rest % size == 0 && (k - 1) / Format::BITS < words
 }
 
-// The row of a type, listed under its kind.
-pub fn row_of(kind: u32, code: u32) -> Listing
-    ensures { λ r. ⌜ rowOf kind code r ≡ rowIn kind code (table base) ⌝ }
+// The row of a type on a board, listed under its kind.
+pub fn row_of(board: &[u32], kind: u32, code: u32) -> Listing
+    ensures { λ r. ⌜ rowOf kind code r ≡ rowIn kind code (table (formatOf (now (board .entry)))) ⌝ }
 {
+    let format = Format::of(board);
     if kind == Head::MAIN {
-        return main_row(code);
+        return main_row(format.sets, code);
     }
     if kind == Head::HIDDEN {
         return hidden_row(code);
@@ -83,15 +89,18 @@ pub fn row_of(kind: u32, code: u32) -> Listing
     Listing::Unlisted
 }
 
-// The rows of the main items.
-fn main_row(code: u32) -> Listing
-    ensures { λ r. ⌜ rowOf mainKind code r ≡ rowIn mainKind code (table base) ⌝ }
+// The rows of the main items, where a set of contests has so many words.
+fn main_row(sets: usize, code: u32) -> Listing
+    requires { ⌜ sets ≤ 8 ⌝ }
+    ensures { λ r. ⌜ rowOf mainKind code r ≡ rowIn mainKind code (table (formatWith sets)) ⌝ }
 {
+    let round = Size::ROUND + sets;
+    let session = Size::SESSION + sets;
     match code {
         Head::GENESIS => Listing::Listed(Row {
             writer: Writer::Administrator,
             parent: ParentRule::Zeros,
-            counts: Counts::FromTo(Size::GENESIS, Size::GENESIS),
+            counts: Counts::FromTo(Size::GENESIS, Size::GENESIS_TRAITS),
         }),
         Head::TEXT => Listing::Listed(Row {
             writer: Writer::Administrator,
@@ -116,12 +125,12 @@ fn main_row(code: u32) -> Listing
         Head::ROUND => Listing::Listed(Row {
             writer: Writer::Administrator,
             parent: ParentRule::LatestConfig,
-            counts: Counts::FromTo(Size::ROUND, Size::ROUND),
+            counts: Counts::FromTo(round, round),
         }),
         Head::SESSION => Listing::Listed(Row {
             writer: Writer::Authorizer,
             parent: ParentRule::LatestConfig,
-            counts: Counts::FromTo(Size::SESSION, Size::SESSION),
+            counts: Counts::FromTo(session, session),
         }),
         Head::VOTER_COMMITMENT => Listing::Listed(Row {
             writer: Writer::Voter,
@@ -136,7 +145,7 @@ fn main_row(code: u32) -> Listing
         Head::BALLOT => Listing::Listed(Row {
             writer: Writer::Voter,
             parent: ParentRule::OfType(Head::SERVER_COMMITMENT),
-            counts: Counts::OneAndEach(Size::CRYPTOGRAM),
+            counts: Counts::SetAndEach(sets, Size::CRYPTOGRAM),
         }),
         Head::CAST => Listing::Listed(Row {
             writer: Writer::Voter,
@@ -161,7 +170,7 @@ fn main_row(code: u32) -> Listing
         Head::CONFIRMATION => Listing::Listed(Row {
             writer: Writer::Administrator,
             parent: ParentRule::OfType(Head::EXTRACTION),
-            counts: Counts::OneAndEach(Size::SHARE),
+            counts: Counts::SetAndEach(Format::NARROW, Size::SHARE),
         }),
         _ => Listing::Unlisted,
     }
@@ -169,7 +178,7 @@ fn main_row(code: u32) -> Listing
 
 // The rows of the items of hidden tracks.
 fn hidden_row(code: u32) -> Listing
-    ensures { λ r. ⌜ rowOf hiddenKind code r ≡ rowIn hiddenKind code (table base) ⌝ }
+    ensures { λ r. ⌜ ((f : model.Format) → rowOf hiddenKind code r ≡ rowIn hiddenKind code (table f)) ⌝ }
 {
     match code {
         Head::TRACK => Listing::Listed(Row {

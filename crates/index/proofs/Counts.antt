@@ -1,46 +1,40 @@
 -- How many content words an item of a type has, by the table of item types. Assumes nothing.
-use Prim.Native.Nat.{ℕ, _+_, _*_, _≤_}
-use native.Mathlib.Omega.{arith}
+use Prim.Native.Nat.{ℕ, _≤_}
 use mathlib.Core.Path.{_≡_, ap}
 use mathlib.Core.Bool.{Bool, _&&_}
 use mathlib.Core.List.{List}
-use lib.Dec.{T, eqb, leb}
-use Rattle.model.specs.Lists.{_⇒_}
-use Rattle.model.specs.Words.{codeOf, countOf, setBits}
+use lib.Dec.{T}
+use Rattle.sha256_block.specs.Fips.{sha256Words}
+use Rattle.model.specs.Words.{codeOf, countOf}
 use Rattle.model.specs.Codes.{genesisType, contestType, thresholdType, authorizerType, roundType, sessionType, ballotType, extractionType, verifierType}
 use Rattle.model.specs.Item.{Item, itemAt, code}
-use Rattle.model.specs.Types.{Counts, from_to_, oneAndEach, table, Listed, fits}
+use Rattle.model.specs.Format.{Format}
+use Rattle.model.specs.Types.{table, Listed, fits}
 use Rattle.model.specs.History.{entry}
-use Rattle.model.proofs.Tests.{facts}
-use Rattle.model.proofs.Table.{everyRow, row-law}
-use Rattle.format.specs.Base.{base}
+use Rattle.model.proofs.Tests.{and-iff}
+use Rattle.model.proofs.Table.{countType, count-type-law, countWithin, count-within-law}
+use Rattle.model.proofs.Traits.{by-sets}
+use Rattle.format.specs.Format.{formatOf, formatWith}
 use Rattle.format.specs.Layout.{itemOf}
 use Rattle.index.specs.Kept.{before, Kept}
 use Rattle.index.proofs.Items.{entry-item, entry-listed, entry-fits}
 
--- no count of these is outside two numbers
-unfoldable pub isWithin : ℕ → ℕ → Counts → Bool
-isWithin low high (from_to_ a b) = leb low a && leb b high
-isWithin low high (oneAndEach s) = leb low (1 + s) && leb (1 + setBits * s) high
-
-fits-within : (c : Counts) (low high n : ℕ) → T (isWithin low high c) → T (fits c n) → (low ≤ n) × (n ≤ high)
-unfolding isWithin fits
-fits-within (from_to_ a b) low high n s t = let u = simp facts at s in let v = simp facts at t in omega arith
-fits-within (oneAndEach k) low high n s t = let u = simp facts at s in let v = simp facts at t in omega arith
-
--- items of type c have from low to high content words; where c, low and high are numerals, `tt` proves it
+-- items of type c have from low to high content words, on boards of both widths; where c, low and high are numerals, `tt` proves it
 unfoldable pub hasWords : ℕ → ℕ → ℕ → Bool
-unfolding _⇒_ isWithin table
-hasWords c low high = everyRow (λ r. eqb (r .code) c ⇒ isWithin low high (r .counts)) (table base)
+unfolding countWithin table
+hasWords c low high = countWithin (formatWith 1) c low high && countWithin (formatWith 8) c low high
 
-pub words-law : {w : ℕ} (c low high n : ℕ) → T (hasWords c low high) → (l : Listed base w) → codeOf w ≡ c → T (fits (l .row .counts) n)
-    → (low ≤ n) × (n ≤ high)
+pub words-law : (board : List ℕ) {w : ℕ} (c low high n : ℕ) → T (hasWords c low high) → (l : Listed (formatOf board) w) → codeOf w ≡ c
+    → T (fits (l .row .counts) n) → (low ≤ n) × (n ≤ high)
 unfolding hasWords
-words-law c low high n t l e = fits-within (l .row .counts) low high n (simp facts at (row-law (λ k x r. eqb x c ⇒ isWithin low high (r .counts)) t l) e)
+words-law board {w} c low high n t =
+    let (one, eight) = and-iff (countWithin (formatWith 1) c low high) (countWithin (formatWith 8) c low high) .0 t in
+    by-sets sha256Words (λ (f : Format). (l : Listed f w) → codeOf w ≡ c → T (fits (l .row .counts) n) → (low ≤ n) × (n ≤ high))
+    (count-within-law c low high n one) (count-within-law c low high n eight) board
 
 -- the contents that are read word by word
-pub sizes : T (hasWords genesisType 17 17 && hasWords contestType 1 65 && hasWords thresholdType 10 10 && hasWords authorizerType 9 9
-    && hasWords roundType 6 6 && hasWords sessionType 19 19 && hasWords ballotType 18 545 && hasWords extractionType 8 8 && hasWords verifierType 8 8)
+pub sizes : T (hasWords genesisType 17 18 && hasWords contestType 1 65 && hasWords thresholdType 10 10 && hasWords authorizerType 9 9
+    && hasWords roundType 6 13 && hasWords sessionType 19 26 && hasWords ballotType 18 4360 && hasWords extractionType 8 8 && hasWords verifierType 8 8)
 unfolding hasWords
 sizes = tt
 
@@ -51,4 +45,12 @@ module _ {board index : List ℕ} {n : ℕ} (kept : Kept board index n) where
   unfolding itemOf itemAt
   entry-words k s l c low high t e =
       let head = ap (λ (i : Item). countOf (i .head)) (entry-item board n k s l) in
-      rw head at (words-law c low high _ t (entry-listed kept k s l) e (entry-fits kept k s l))
+      rw head at (words-law board c low high _ t (entry-listed kept k s l) e (entry-fits kept k s l))
+
+  -- exactly so many, where its type allows no other number
+  pub entry-exactly : (k : ℕ) → 1 ≤ k → k ≤ n → (c m : ℕ) → T (countType (formatOf board) c m) → code (entry (before board n) k .item) ≡ c
+      → itemOf board (entry (before board n) k .place) .head .count ≡ m
+  unfolding itemOf itemAt
+  entry-exactly k s l c m t e =
+      let head = ap (λ (i : Item). countOf (i .head)) (entry-item board n k s l) in
+      rw head at (count-type-law c m _ t (entry-listed kept k s l) e (entry-fits kept k s l))

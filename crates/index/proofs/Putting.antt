@@ -26,7 +26,7 @@ use Rattle.model.proofs.Unchecked.{length-history}
 use Rattle.model.proofs.Tables.{length-indexRows, number-none, filled-append, filled-set}
 use Rattle.model.proofs.Growth.{rows-other, rows-close}
 use Rattle.format.specs.declared.head.Head.{Head}
-use Rattle.format.specs.Base.{base}
+use Rattle.format.specs.Format.{formatOf}
 use Rattle.format.specs.Layout.{itemOf}
 use Rattle.format.proofs.Places.{head-is}
 use Rattle.index.specs.declared.Known.{Known}
@@ -69,12 +69,12 @@ module _ {board index : List ℕ} {n : ℕ} {c : Known} (p : Passing board index
   pub small : (mains : ℕ) → mains ≡ mainNumber h n → Small c mains
   unfolding entryOf itemOf
   small mains e =
-      let size = length-history base board n in
+      let size = length-history (formatOf board) board n in
       let o = orderly (p .kept .passed) in
       let parent : parentNumber h i ≤ suc n =
       by-test (eqb (model.code i) 1) (λ q. omega (arith, parent-genesis h i q)) (λ q. omega (arith, parent-bound h i q)) in
       let session : sessionNumber h i ≤ suc n = omega (arith, session-bound (p .meets) o) in
-      let place : placeOf base board n ≤ wordLimit = omega (arith, p .kept .within, p .kept .words) in
+      let place : placeOf (formatOf board) board n ≤ wordLimit = omega (arith, p .kept .within, p .kept .words) in
       let fewer : mains ≤ n = rw e (omega (arith, count-few main (take n h), length-take n h)) in
       record {
         place = rw (p .known) place;
@@ -83,16 +83,16 @@ module _ {board index : List ℕ} {n : ℕ} {c : Known} (p : Passing board index
         mains = omega (arith, p .more);
       }
 
-  passed-next : Passed base anyone (take (placeOf base board (suc n)) board) (p .kept .verdicts ++ p .verdict) (before board (suc n))
+  passed-next : Passed (formatOf board) anyone (take (placeOf (formatOf board) board (suc n)) board) (p .kept .verdicts ++ p .verdict) (before board (suc n))
   unfolding placeOf history
   passed-next =
-      let at = placeOf base board n in
+      let at = placeOf (formatOf board) board n in
       let place : length (take at board) ≡ at = length-take-le at board (p .kept .within) in
       let passed = rw place at (next _ _ _ _ _ (p .kept .passed) (p .meets)) in
-      rw (take-part at _ board, ← words-at base board at (p .within)) passed
+      rw (take-part at _ board, ← words-at (formatOf board) board at (p .within)) passed
 
   abbrev new : Entry
-  new = entryOf h (placeOf base board n) i
+  new = entryOf h (placeOf (formatOf board) board n) i
 
   abbrev rows : List ℕ
   rows = indexRows h 0 h
@@ -102,7 +102,7 @@ module _ {board index : List ℕ} {n : ℕ} {c : Known} (p : Passing board index
       → sets index (indexRow * n) (rowWith mains c) ≡ filled (length index) (rows ++ rowWords new (count main h) 0)
   unfolding entryOf itemOf
   row-put mains e =
-      let size = length-history base board n in
+      let size = length-history (formatOf board) board n in
       let long : length rows ≡ indexRow * n = length-indexRows h 0 h ∙ ap (λ (k : ℕ). indexRow * k) size in
       let all : count main h ≡ mains = sym (e ∙ ap (count main) (take-all n h (omega arith))) in
       let row : List ℕ = rowWords new (count main h) 0 in
@@ -115,7 +115,7 @@ module _ {board index : List ℕ} {n : ℕ} {c : Known} (p : Passing board index
 
   passing-code : c .item .head .code ≡ code i
   unfolding entryOf
-  passing-code = ap (λ (k : Known). k .item .head .code) (p .known) ∙ ap (λ (d : Head). d .code) (head-is board (placeOf base board n))
+  passing-code = ap (λ (k : Known). k .item .head .code) (p .known) ∙ ap (λ (d : Head). d .code) (head-is board (placeOf (formatOf board) board n))
 
   passing-parent : c .parent ≡ parentNumber h i
   unfolding entryOf
@@ -125,7 +125,7 @@ module _ {board index : List ℕ} {n : ℕ} {c : Known} (p : Passing board index
   pub closes-row : T (castOrSpoil (c .item .head .code)) → (1 ≤ c .parent) × (c .parent ≤ n)
   closes-row t =
       let later : eqb (code i) 1 ≡ false = ne-eqb (code i) 1 (λ q. absurd (rw (passing-code ∙ q) at t)) in
-      rw passing-parent (parent-some (p .meets), omega (arith, parent-bound h i later, length-history base board n))
+      rw passing-parent (parent-some (p .meets), omega (arith, parent-bound h i later, length-history (formatOf board) board n))
 
   -- what the item closes, in the table with its row
   abbrev with-row : List ℕ
@@ -133,7 +133,7 @@ module _ {board index : List ℕ} {n : ℕ} {c : Known} (p : Passing board index
 
   closes-none : castOrSpoil (c .item .head .code) ≡ false → with-row ≡ filled (length index) (indexRows (before board (suc n)) 0 (before board (suc n)))
   unfolding history
-  closes-none q = ap (filled (length index)) (sym (rows-other (p .kept .passed) (p .meets) (placeOf base board n) (rw (← passing-code, q) tt)))
+  closes-none q = ap (filled (length index)) (sym (rows-other (p .kept .passed) (p .meets) (placeOf (formatOf board) board n) (rw (← passing-code, q) tt)))
 
   closes-some : castOrSpoil (c .item .head .code) ≡ true
       → set with-row (rowPlace (c .parent) closerColumn) (suc n) ≡ filled (length index) (indexRows (before board (suc n)) 0 (before board (suc n)))
@@ -143,10 +143,10 @@ module _ {board index : List ℕ} {n : ℕ} {c : Known} (p : Passing board index
       let row : List ℕ = rowWords new (count main h) 0 in
       let (some, few) = closes-row (passes q) in
       let long = length-indexRows h 0 h in
-      let size = length-history base board n in
+      let size = length-history (formatOf board) board n in
       let inside : at < length rows = omega arith in
       let closed : set rows (rowPlace (parentNumber h i) closerColumn) (suc (length h)) ≡ set rows at (suc n) = rw (passing-parent, size) in
-      let next = rows-close (p .kept .passed) (p .meets) (placeOf base board n) (rw (← passing-code) (passes q)) in
+      let next = rows-close (p .kept .passed) (p .meets) (placeOf (formatOf board) board n) (rw (← passing-code) (passes q)) in
       sym (filled-set (length index) (rows ++ row) at (suc n) (simp length-append (omega arith)))
       ∙ ap (filled (length index)) (set-append-left rows row at (suc n) inside ∙ sym (ap (_++ row) closed) ∙ sym next)
 

@@ -13,7 +13,7 @@ use Rattle.model.specs.Item.{itemAt, itemLength, code, word}
 use Rattle.model.specs.History.{Entry, main, entry}
 use Rattle.format.specs.declared.head.Head.{Head}
 use Rattle.format.specs.declared.item.Item.{Item}
-use Rattle.format.specs.Base.{base}
+use Rattle.format.specs.Format.{formatOf}
 use Rattle.format.specs.Layout.{headOf, itemOf}
 use Rattle.format.proofs.Places.{head-is, address-is, word-is}
 use Rattle.index.specs.declared.Known.{Known}
@@ -28,17 +28,17 @@ entry-known {board} {index} {n} kept k s l =
     record { same = refl; item = entry-item board n k s l; within = item-within kept k s l .0 }
 
 -- the head of an entry that stands at its place
-pub head-of-entry : (board : List ℕ) (e : Entry) → e .item ≡ itemAt base board (e .place) → knownOf board e .item .head ≡ headOf (e .item .head)
+pub head-of-entry : (board : List ℕ) (e : Entry) → e .item ≡ itemAt (formatOf board) board (e .place) → knownOf board e .item .head ≡ headOf (e .item .head)
 head-of-entry board e same = head-is board (e .place) ∙ ap (λ (i : model.Item). headOf (i .head)) (sym same)
 
 -- the parts of an item that ends within the board lie within it
 pub record Within (board : List ℕ) (i : Item) : Type 0 where
   pub content : i .content + i .head .count ≤ length board
-  pub parent : i .parent + base .address ≤ length board
-  pub previous : i .previous + base .address ≤ length board
+  pub parent : i .parent + formatOf board .address ≤ length board
+  pub previous : i .previous + formatOf board .address ≤ length board
   pub time : i .time + timeSize ≤ length board
-  pub signature : i .signature + base .signature ≤ length board
-  pub address : i .address + base .address ≤ length board
+  pub signature : i .signature + formatOf board .signature ≤ length board
+  pub address : i .address + formatOf board .address ≤ length board
 
 pub parts-within : {board : List ℕ} (p : ℕ) {i : Item} → i ≡ itemOf board p → i .end ≤ length board → Within board i
 unfolding itemOf itemLength
@@ -83,9 +83,9 @@ module _ {board : List ℕ} {e : Entry} {r : Known} (is : IsKnown board e r) whe
   known-within = parts-within (e .place) known-item (is .within)
 
   -- words of the board
-  pub known-address : part (r .item .address) (base .address) board ≡ e .item .address
+  pub known-address : part (r .item .address) (formatOf board .address) board ≡ e .item .address
   known-address =
-      ap (λ (i : Item). part (i .address) (base .address) board) known-item
+      ap (λ (i : Item). part (i .address) (formatOf board .address) board) known-item
       ∙ address-is board (e .place)
       ∙ ap (λ (i : model.Item). i .address) (sym (is .item))
 

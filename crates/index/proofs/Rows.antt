@@ -14,7 +14,7 @@ use Rattle.model.proofs.Closers.{closer-bound}
 use Rattle.model.proofs.Unchecked.{length-history}
 use Rattle.model.proofs.Rows.{SaysOf, index-says}
 use Rattle.format.specs.declared.item.Item.{Item}
-use Rattle.format.specs.Base.{base}
+use Rattle.format.specs.Format.{formatOf}
 use Rattle.format.specs.Layout.{itemOf}
 use Rattle.index.specs.Rows.{numberIn}
 use Rattle.index.specs.Kept.{before, Kept}
@@ -36,12 +36,12 @@ module _ {board index : List ℕ} {n : ℕ} (kept : Kept board index n) where
     pub row-says : SaysOf index (before board n) k
     row-says =
         subst (λ (words : List ℕ). SaysOf words (before board n) k) (sym (kept .rows))
-        (index-says (length index) (before board n) k some (omega (arith, length-history base board n)))
+        (index-says (length index) (before board n) k some (omega (arith, length-history (formatOf board) board n)))
 
     -- what `closer` makes of it
     pub row-closer : numberIn (rowWord index k closerColumn) ≡ closer (before board n) k
     row-closer =
-        let small : closer (before board n) k ≤ itemLimit = omega (arith, closer-bound (before board n) k, length-history base board n, kept .few) in
+        let small : closer (before board n) k ≤ itemLimit = omega (arith, closer-bound (before board n) k, length-history (formatOf board) board n, kept .few) in
         ap numberIn (row-says .closer) ∙ number-back (closer (before board n) k) small
 
     -- its head stands on the board

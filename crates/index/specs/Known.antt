@@ -8,7 +8,7 @@ use Rattle.model.specs.Item.{itemAt}
 use Rattle.model.specs.History.{Entry, placeOf, entryOf}
 use Rattle.model.specs.Audit.{itemLimit}
 use Rattle.model.specs.Sound.{Meets}
-use Rattle.format.specs.Base.{base}
+use Rattle.format.specs.Format.{formatOf}
 use Rattle.format.specs.Layout.{itemOf}
 use Rattle.index.specs.Kept.{before, itemAfter, anyone, Kept}
 use Rattle.index.specs.declared.Known.{Known}
@@ -20,14 +20,14 @@ knownOf board e = record { item = itemOf board (e .place); parent = e .parent; s
 -- r is the entry e, whose item stands at its place, within the board
 pub record IsKnown (board : List ℕ) (e : Entry) (r : Known) : Type 0 where
   pub same : r ≡ knownOf board e
-  pub item : e .item ≡ itemAt base board (e .place)
+  pub item : e .item ≡ itemAt (formatOf board) board (e .place)
   pub within : r .item .end ≤ length board
 
 -- the item after the first n meets the rules, under some verdict and with the roll left aside, and c is what is known of it
 pub record Passing (board index : List ℕ) (n : ℕ) (c : Known) : Type 0 where
   pub kept : Kept board index n
   pub more : n < itemLimit
-  pub known : c ≡ knownOf board (entryOf (before board n) (placeOf base board n) (itemAfter board n))
+  pub known : c ≡ knownOf board (entryOf (before board n) (placeOf (formatOf board) board n) (itemAfter board n))
   pub verdict : List ℕ
-  pub meets : Meets base anyone (before board n) verdict (itemAfter board n)
-  pub within : placeOf base board (suc n) ≤ length board
+  pub meets : Meets (formatOf board) anyone (before board n) verdict (itemAfter board n)
+  pub within : placeOf (formatOf board) board (suc n) ≤ length board

@@ -5,7 +5,7 @@ use mathlib.Core.List.{List}
 use lib.ListN.{length}
 use Rattle.model.specs.Item.{itemAt, behind}
 use Rattle.model.specs.History.{entryOf, parentNumber, sessionNumber}
-use Rattle.format.specs.Base.{base}
+use Rattle.format.specs.Format.{formatOf}
 use Rattle.format.specs.Layout.{itemOf}
 use Rattle.format.specs.declared.item.Item.{Item}
 use Rattle.index.specs.Kept.{before, itemAfter}
@@ -25,7 +25,7 @@ module _ (board : List ℕ) (p : ℕ) {item : Item} (is : item ≡ itemOf board 
   pub item-own : item ≡ itemOf board (item .place)
   item-own = is ∙ ap (itemOf board) (sym item-place)
 
-  pub item-end : item .end ≡ behind base board p
+  pub item-end : item .end ≡ behind (formatOf board) board p
   unfolding itemOf
   item-end = ap (λ (i : Item). i .end) is
 
@@ -33,17 +33,17 @@ module _ {board index : List ℕ} {s : State} {c : Known} (a : AtItem board inde
   pub at-own : (c .item ≡ itemOf board (c .item .place)) × (c .item .end ≤ length board)
   at-own = (item-own board _ (next-item (at-next a)), a .within)
 
-  pub at-read : itemAt base board (c .item .place) ≡ itemAfter board (s .items)
-  at-read = ap (itemAt base board) (item-place board _ (next-item (at-next a)))
+  pub at-read : itemAt (formatOf board) board (c .item .place) ≡ itemAfter board (s .items)
+  at-read = ap (itemAt (formatOf board) board) (item-place board _ (next-item (at-next a)))
 
 -- the candidate, from what the searches answer
 pub candidate-known : (board : List ℕ) {s : State} {item : Item} {parent session : ℕ} → Stands board s → item ≡ itemOf board (s .place)
-    → parent ≡ parentNumber (before board (s .items)) (itemAt base board (item .place))
-    → session ≡ sessionNumber (before board (s .items)) (itemAt base board (item .place))
+    → parent ≡ parentNumber (before board (s .items)) (itemAt (formatOf board) board (item .place))
+    → session ≡ sessionNumber (before board (s .items)) (itemAt (formatOf board) board (item .place))
     → record { item = item; parent = parent; session = session } ≡ knownNext board s
 unfolding entryOf
 candidate-known board {s} {item} {parent} {session} stands is ep es =
-    let read : itemAt base board (item .place) ≡ itemAfter board (s .items) = ap (itemAt base board) (item-place board (s .place) is ∙ stands .place) in
+    let read : itemAt (formatOf board) board (item .place) ≡ itemAfter board (s .items) = ap (itemAt (formatOf board) board) (item-place board (s .place) is ∙ stands .place) in
     λ j. record {
       item = is j;
       parent = (ep ∙ ap (parentNumber (before board (s .items))) read) j;

@@ -17,7 +17,7 @@ use Rattle.model.specs.Audit.{firstUnmet, faultIn, itemLimit}
 use Rattle.model.proofs.Tests.{passes}
 use Rattle.model.proofs.Unchecked.{length-history}
 use Rattle.model.proofs.FirstItems.{fault-meets}
-use Rattle.format.specs.Base.{base}
+use Rattle.format.specs.Format.{formatOf}
 use Rattle.format.specs.Layout.{headOf, itemOf}
 use Rattle.format.specs.Table.{rowOf, countsOf}
 use Rattle.format.specs.declared.head.Head.{Head}
@@ -40,8 +40,8 @@ use Rattle.judge.proofs.Item.{item-end}
 
 -- the row that the code found is the model's
 pub listed-row : (board : List ℕ) (s : State) {head : Head} (listing : Listing) {found : Listing} → head ≡ headOf (getD board (s .place) 0)
-    → found ≡ listing → rowOf (head .kind) (head .code) found ≡ types.rowIn (head .kind) (head .code) (types.table base)
-    → types.rowOf base (getD board (s .place) 0) ≡ rowOf (kindOf (getD board (s .place) 0)) (codeOf (getD board (s .place) 0)) listing
+    → found ≡ listing → rowOf (head .kind) (head .code) found ≡ types.rowIn (head .kind) (head .code) (types.table (formatOf board))
+    → types.rowOf (formatOf board) (getD board (s .place) 0) ≡ rowOf (kindOf (getD board (s .place) 0)) (codeOf (getD board (s .place) 0)) listing
 unfolding types.rowOf
 listed-row board s listing is same found = sym (rw (is, same) at found)
 
@@ -49,7 +49,7 @@ module _ (board verdicts roll : List ℕ) (s : State) where
   abbrev word : ℕ
   word = getD board (s .place) 0
 
-  pub fault-unlisted : types.rowOf base word ≡ none → faultAfter board verdicts roll s ≡ unknownType
+  pub fault-unlisted : types.rowOf (formatOf board) word ≡ none → faultAfter board verdicts roll s ≡ unknownType
   unfolding faultIn
   fault-unlisted q = rw q
 
@@ -73,10 +73,10 @@ module _ (board verdicts roll : List ℕ) (s : State) where
       fault-past at-place l = rw (is, counted, lt-ltb _ _ (rw (item-end board (s .place) at-place) at l))
 
       -- 7 to 16 and 21
-      pub fault-checks : Stands board s → behind base board (s .place) ≤ length board
+      pub fault-checks : Stands board s → behind (formatOf board) board (s .place) ≤ length board
           → faultAfter board verdicts roll s ≡ firstUnmet (checksOf board (onRoll roll) (verdictAt verdicts (s .items)) s row)
       unfolding faultIn if_then_else_
-      fault-checks stands l = rw (is, counted, le-ltb _ _ l, length-history base board (s .items), stands .place)
+      fault-checks stands l = rw (is, counted, le-ltb _ _ l, length-history (formatOf board) board (s .items), stands .place)
 
 -- ---- the item at hand
 
@@ -95,7 +95,7 @@ module _ {board index : List ℕ} {s : State} (kept : Kept board index (s .items
     within = rw (known, ← is-item) within;
   }
 
-  fit : behind base board (s .place) ≤ length board
+  fit : behind (formatOf board) board (s .place) ≤ length board
   fit = rw (item-end board (s .place) is-item) at within
 
   -- what is found of 7 to 16 and 21 is the answer
@@ -107,7 +107,7 @@ module _ {board index : List ℕ} {s : State} (kept : Kept board index (s .items
       → faultAfter board verdicts roll s ≡ noFault → Passing board index (s .items) c
   unfolding placeOf
   judged-passing verdicts roll c known clean =
-      let (inside, met) = fault-meets base (onRoll roll) board verdicts (s .items) _ refl (rw (stands .place) at clean) in
+      let (inside, met) = fault-meets (formatOf board) (onRoll roll) board verdicts (s .items) _ refl (rw (stands .place) at clean) in
       record {
         kept = kept;
         more = more;

@@ -6,7 +6,7 @@ use Rattle.model.specs.Words.{kindOf, codeOf}
 use Rattle.model.specs.Types as types
 use Rattle.model.specs.Roll.{Eligibility}
 use Rattle.model.specs.Audit.{Check, checks}
-use Rattle.format.specs.Base.{base}
+use Rattle.format.specs.Format.{formatOf}
 use Rattle.format.specs.Table.{writerOf, parentRuleOf, countsOf}
 use Rattle.format.specs.declared.table.Row.{Row}
 use Rattle.index.specs.Kept.{before, itemAfter}
@@ -24,7 +24,7 @@ rowWith board s row = record {
 
 -- 7 to 16 and 21, of the item after those that passed, with its verdict words v
 abbrev pub checksOf : List ℕ → Eligibility → List ℕ → State → Row → List Check
-checksOf board eligible v s row = checks base eligible (before board (s .items)) v (rowWith board s row) (itemAfter board (s .items))
+checksOf board eligible v s row = checks (formatOf board) eligible (before board (s .items)) v (rowWith board s row) (itemAfter board (s .items))
 
 -- of these 7 to 10, 11 to 13 and 21, and 14 to 16
 abbrev pub linkChecks : List Check → List Check

@@ -60,7 +60,7 @@ pub fn judge(
 {
     let place = s.place;
     let head = Head::of(board[place]);
-    let listing = table::row_of(head.kind, head.code);
+    let listing = table::row_of(board, head.kind, head.code);
     // 5 stranger
     let Listing::Listed(row) = listing else {
         return Judged::Fails(Refusal::UnknownType);

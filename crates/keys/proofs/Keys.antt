@@ -23,7 +23,7 @@ use Rattle.model.proofs.Parts.{length-part}
 use Rattle.format.specs.declared.item.Item as layout
 use Rattle.format.specs.declared.table.Writer.{Writer}
 use Rattle.format.specs.declared.table.Writer.the-variants.{Administrator, BallotBox, Authorizer, Voter, Verifier}
-use Rattle.format.specs.Base.{base}
+use Rattle.format.specs.Format.{formatOf}
 use Rattle.format.specs.Table.{writerOf}
 use Rattle.format.proofs.Places.{content-is}
 use Rattle.index.specs.declared.Known.{Known}
@@ -178,7 +178,7 @@ module _ {board index : List ℕ} {s : State} {c : Known} (a : AtItem board inde
     key-opening-own q = rw (at-content-words a, opening-own board (s .items) i q)
 
     pub key-opening-first : (s .items ≡ 0 → ⊥) → sameWords (part at keySize vs) (keyAt k (itemNo h 1)) ≡ sameWords (part at keySize vs) (keyAt k (opening h i))
-    key-opening-first q = rw (opening-first h i (λ e. q (sym (length-history base board (s .items)) ∙ e)))
+    key-opening-first q = rw (opening-first h i (λ e. q (sym (length-history (formatOf board) board (s .items)) ∙ e)))
 
   -- the key of each writer
   module _ (vs : List ℕ) (whole : T (verdictOk (verdict vs (s .items)))) (w : Writer) where

@@ -20,7 +20,7 @@ use Rattle.model.proofs.Tests.{by-test}
 use Rattle.model.proofs.Table.{main-code, genesis-law, asksNone}
 use Rattle.model.proofs.Numbers.{entry-none}
 use Rattle.sha256_block.specs.Fips.{sha256Words}
-use Rattle.format.specs.Base.{base}
+use Rattle.format.specs.Format.{formatOf}
 use Rattle.format.specs.Layout.{itemOf}
 use Rattle.format.specs.declared.item.Item.{Item}
 use Rattle.format.specs.declared.table.Row.{Row}
@@ -55,13 +55,13 @@ hashed-in board {it} e l =
 
 pub address-same : (board : List ℕ) (it : Item) (digest : List ℕ) → it ≡ itemOf board (it .place) → it .end ≤ length board → length digest ≡ 8
     → digest ≡ sha256Words (take (it .signature - it .place) (drop (it .place) board))
-    → sameWords (part 0 8 digest) (part (it .address) 8 board) ≡ addressOk base (itemAt base board (it .place))
+    → sameWords (part 0 8 digest) (part (it .address) 8 board) ≡ addressOk (formatOf board) (itemAt (formatOf board) board (it .place))
 unfolding addressOk part
 address-same board it digest s within n e =
     let p = it .place in
     let whole : take 8 digest ≡ digest = take-all 8 digest (omega arith) in
     let signature : it .signature ≡ itemOf board p .signature = ap (λ (x : Item). x .signature) s in
-    let hashed : it .signature - p ≡ hashedLength base (itemOf board p .head .count) = omega (arith, signature-behind board p) in
+    let hashed : it .signature - p ≡ hashedLength (formatOf board) (itemOf board p .head .count) = omega (arith, signature-behind board p) in
     let end : it .end ≡ itemOf board p .end = ap (λ (x : Item). x .end) s in
     let address : it .address ≡ itemOf board p .address = ap (λ (x : Item). x .address) s in
     rw (whole, e, hashed, hashed-is board p (omega arith), address, address-is board p)
@@ -78,39 +78,39 @@ module _ {board index : List ℕ} {s : State} {c : Known} (a : AtItem board inde
   abbrev previous : List ℕ
   previous = part (c .item .previous) 8 board
 
-  pub previous-hidden : (c .item .head .kind ≡ 1 → ⊥) → sameWords previous (part (c .item .parent) 8 board) ≡ previousOk base (before board (s .items)) i
+  pub previous-hidden : (c .item .head .kind ≡ 1 → ⊥) → sameWords previous (part (c .item .parent) 8 board) ≡ previousOk (formatOf board) (before board (s .items)) i
   unfolding previousOk if_then_else_
   previous-hidden n = rw (at-previous-words a, at-parent-words a, main-is false (ne-eqb _ _ n))
 
-  pub previous-first : c .item .head .kind ≡ 1 → s .last ≡ 0 → sameWords previous (replicate 8 0) ≡ previousOk base (before board (s .items)) i
+  pub previous-first : c .item .head .kind ≡ 1 → s .last ≡ 0 → sameWords previous (replicate 8 0) ≡ previousOk (formatOf board) (before board (s .items)) i
   unfolding previousOk if_then_else_
   previous-first m z = rw (at-previous-words a, main-is true (eq-eqb _ _ m), end-none (a .stands) z)
 
   pub previous-main : c .item .head .kind ≡ 1 → (s .last ≡ 0 → ⊥) → (e : Known) → IsKnown board (entry (before board (s .items)) (s .last)) e
-      → sameWords previous (part (e .item .address) 8 board) ≡ previousOk base (before board (s .items)) i
+      → sameWords previous (part (e .item .address) 8 board) ≡ previousOk (formatOf board) (before board (s .items)) i
   unfolding previousOk if_then_else_
   previous-main m n e k = rw (at-previous-words a, main-is true (eq-eqb _ _ m), end-last (a .stands) n, known-address k)
 
   -- ---- 9, the parent
 
-  pub parent-zeros : sameWords (part (c .item .parent) 8 board) (replicate 8 0) ≡ parentOk base (before board (s .items)) zeros i
+  pub parent-zeros : sameWords (part (c .item .parent) 8 board) (replicate 8 0) ≡ parentOk (formatOf board) (before board (s .items)) zeros i
   unfolding parentOk
   parent-zeros = rw (at-parent-words a)
 
-  pub parent-config : (c .parent ≡ 0 → ⊥) → eqb (c .parent) (s .config) ≡ parentOk base (before board (s .items)) latestConfig i
+  pub parent-config : (c .parent ≡ 0 → ⊥) → eqb (c .parent) (s .config) ≡ parentOk (formatOf board) (before board (s .items)) latestConfig i
   unfolding parentOk
   parent-config n = rw (← at-parent a, ← a .stands .config, ne-eqb (c .parent) 0 n)
 
-  pub no-config : c .parent ≡ 0 → false ≡ parentOk base (before board (s .items)) latestConfig i
+  pub no-config : c .parent ≡ 0 → false ≡ parentOk (formatOf board) (before board (s .items)) latestConfig i
   unfolding parentOk
   no-config z = rw (← at-parent a, z)
 
   pub parent-typed : (d : ℕ) → (c .parent ≡ 0 → ⊥) → (e : Known) → IsKnown board (entry (before board (s .items)) (c .parent)) e
-      → eqb (e .item .head .code) d ≡ parentOk base (before board (s .items)) (ofType d) i
+      → eqb (e .item .head .code) d ≡ parentOk (formatOf board) (before board (s .items)) (ofType d) i
   unfolding parentOk
   parent-typed d n e k = rw (← at-parent a, ne-eqb (c .parent) 0 n) (ap (λ (x : ℕ). eqb x d) (known-code k))
 
-  pub no-typed : (d : ℕ) → c .parent ≡ 0 → false ≡ parentOk base (before board (s .items)) (ofType d) i
+  pub no-typed : (d : ℕ) → c .parent ≡ 0 → false ≡ parentOk (formatOf board) (before board (s .items)) (ofType d) i
   unfolding parentOk
   no-typed d z = rw (← at-parent a, z)
 
@@ -119,7 +119,7 @@ module _ {board index : List ℕ} {s : State} {c : Known} (a : AtItem board inde
   unfolding asksNone itemAt
   typed-in d r row q =
       let w = getD board (s .place) 0 in
-      let l : Listed base w = record { row = _; found = row } in
+      let l : Listed (formatOf board) w = record { row = _; found = row } in
       let other : eqb (codeOf w) 1 ≡ false = sym (genesis-law l) ∙ rw q in
       parent-in-range a (λ z. eqb-false (codeOf w) 1 other (rw (a .stands .place) (sym (at-code a) ∙ z)))
 

@@ -5,12 +5,12 @@ ghost use lib.ListN.{length};
 ghost use lib.Dec.{eqb};
 ghost use Rattle.model.specs.Lists.{if_then_else_};
 ghost use Rattle.model.specs.Words.{mainKind};
-ghost use Rattle.model.specs.Item.{itemAt};
 ghost use Rattle.model.specs.Links.{addressOk, previousOk, parentOk, timeOk};
-ghost use Rattle.format.specs.Base.{base};
+ghost use Rattle.format.specs.Format.{formatOf};
+ghost use Rattle.format.specs.Layout.{itemOn};
 ghost use Rattle.format.specs.Layout.{itemOf};
 ghost use Rattle.format.specs.Table.{parentRuleOf};
-ghost use Rattle.index.specs.Kept.{before, itemAfter};
+ghost use Rattle.index.specs.Kept.{before, itemAfter, ruleAfter};
 ghost use Rattle.state.specs.Stands.{AtItem, IsRow};
 use format::head::Head;
 use format::item::Item;
@@ -22,7 +22,7 @@ use state::State;
 // 7 false address: whether the address is the hash of the item's hashed words, which are read where they stand on the board.
 pub fn address_ok(board: &[u32], item: Item) -> bool
     requires { ⌜ (item ≡ itemOf (now board) (item .place)) × (item .end ≤ length (now board)) ⌝ }
-    ensures { λ r. ⌜ r ≡ addressOk base (itemAt base (now (board .entry)) (item .place)) ⌝ }
+    ensures { λ r. ⌜ r ≡ addressOk (formatOf (now (board .entry))) (itemOn (now (board .entry)) (item .place)) ⌝ }
 {
     let place = item.place;
     let end = item.signature;
@@ -33,7 +33,7 @@ pub fn address_ok(board: &[u32], item: Item) -> bool
 // 8 broken history: whether a main item names the main item before it, and a hidden item its parent.
 pub fn previous_ok(board: &[u32], index: &[u32], s: State, c: Known) -> bool
     requires { ⌜ AtItem (now board) (now index) s c ⌝ }
-    ensures { λ r. ⌜ r ≡ previousOk base (before (now (board .entry)) (s .items)) (itemAfter (now (board .entry)) (s .items)) ⌝ }
+    ensures { λ r. ⌜ r ≡ ruleAfter previousOk (now (board .entry)) (s .items) ⌝ }
 {
     let at = c.item.previous;
     if c.item.head.kind != Head::MAIN {
@@ -49,7 +49,7 @@ pub fn previous_ok(board: &[u32], index: &[u32], s: State, c: Known) -> bool
 // 9 orphan: whether the parent is found, and is as listed.
 pub fn parent_ok(board: &[u32], index: &[u32], s: State, c: Known, row: Row) -> bool
     requires { ⌜ (AtItem (now board) (now index) s c) × (IsRow (now board) s row) ⌝ }
-    ensures { λ r. ⌜ r ≡ parentOk base (before (now (board .entry)) (s .items)) (parentRuleOf (row .parent))
+    ensures { λ r. ⌜ r ≡ parentOk (formatOf (now (board .entry))) (before (now (board .entry)) (s .items)) (parentRuleOf (row .parent))
         (itemAfter (now (board .entry)) (s .items)) ⌝ }
 {
     let rule = row.parent;

@@ -18,7 +18,7 @@ use Rattle.model.specs.History.{Entry, placeOf, entryOf}
 use Rattle.model.proofs.Tests.{by-test}
 use Rattle.chains.specs.Chain.{buckets, chainWords, linked, chain}
 use Rattle.chains.proofs.Laws.{chain-length}
-use Rattle.format.specs.Base.{base}
+use Rattle.format.specs.Format.{formatOf}
 use Rattle.format.specs.Layout.{itemOf}
 use Rattle.index.specs.declared.Known.{Known}
 use Rattle.index.specs.Kept.{before, itemAfter}
@@ -60,7 +60,7 @@ first-word board at = rw (getD-take 8 (drop at board) 0 0 (lit< tt), getD-drop, 
 
 module _ {board index : List ℕ} {n : ℕ} {c : Known} (p : Passing board index n c) where
   abbrev new : Entry
-  new = entryOf (before board n) (placeOf base board n) (itemAfter board n)
+  new = entryOf (before board n) (placeOf (formatOf board) board n) (itemAfter board n)
 
   is : IsKnown board new c
   unfolding entryOf placeOf itemOf
@@ -86,7 +86,7 @@ module _ {board index : List ℕ} {n : ℕ} {c : Known} (p : Passing board index
 
   voter-word : c .item .head .code ≡ sessionType → 1 ≤ c .item .head .count
   unfolding entryOf hasWords
-  voter-word q = rw (known-count is) (words-law sessionType 1 19 _ tt (p .meets .listed) (typed q) (p .meets .counted) .0)
+  voter-word q = rw (known-count is) (words-law board sessionType 1 26 _ tt (p .meets .listed) (typed q) (p .meets .counted) .0)
 
   pub voter-inside : c .item .head .code ≡ sessionType → c .item .content < length board
   voter-inside q = omega (arith, known-within is .content, voter-word q)

@@ -17,7 +17,7 @@ use Rattle.model.proofs.Entries.{parent-genesis, parent-first, parent-bound, se
 use Rattle.model.proofs.Unchecked.{length-history}
 use Rattle.format.specs.declared.head.Head.{Head}
 use Rattle.format.specs.declared.item.Item.{Item}
-use Rattle.format.specs.Base.{base}
+use Rattle.format.specs.Format.{formatOf}
 use Rattle.format.specs.Layout.{itemOf}
 use Rattle.format.proofs.Places.{head-is, parent-is}
 use Rattle.index.specs.declared.Known.{Known}
@@ -31,7 +31,7 @@ module _ (board : List ℕ) (n : ℕ) (item : Item) (same : item ≡ itemOf boar
   h = before board n
 
   abbrev i : model.Item
-  i = itemAt base board (item .place)
+  i = itemAt (formatOf board) board (item .place)
 
   pub code-same : item .head .code ≡ code i
   code-same = ap (λ (x : Item). x .head .code) same ∙ ap (λ (x : Head). x .code) (head-is board (item .place))
@@ -43,7 +43,7 @@ module _ (board : List ℕ) (n : ℕ) (item : Item) (same : item ≡ itemOf boar
 
   pub parent-own : item .head .code ≡ genesisType → n + 1 ≡ parentNumber h i
   parent-own q =
-      omega (arith, parent-genesis h i (rw (← code-same) (eq-eqb (item .head .code) genesisType q)), length-history base board n)
+      omega (arith, parent-genesis h i (rw (← code-same) (eq-eqb (item .head .code) genesisType q)), length-history (formatOf board) board n)
 
   pub parent-sought : item .head .code ≢ genesisType → {m : Bool} {r : ℕ} → m ≡ leb (item .head .code) trackType
       → r ≡ first (addressed m (part (item .parent) 8 board)) h → r ≡ parentNumber h i
@@ -59,11 +59,11 @@ module _ (board : List ℕ) (n : ℕ) (item : Item) (same : item ≡ itemOf boar
   module _ (q : item .head .code ≢ genesisType) where
     pub session-new : item .head .code ≡ sessionType → n + 1 ≡ sessionNumber h i
     session-new s =
-        omega (arith, session-own h i (later q) (rw (← code-same) (eq-eqb (item .head .code) sessionType s)), length-history base board n)
+        omega (arith, session-own h i (later q) (rw (← code-same) (eq-eqb (item .head .code) sessionType s)), length-history (formatOf board) board n)
 
     module _ (parent : ℕ) (found : parent ≡ parentNumber h i) where
       pub parent-few : parent ≤ n
-      parent-few = omega (arith, parent-bound h i (later q), length-history base board n)
+      parent-few = omega (arith, parent-bound h i (later q), length-history (formatOf board) board n)
 
       module _ (s : item .head .code ≢ sessionType) where
         up : sessionNumber h i ≡ entry h parent .session

@@ -18,7 +18,7 @@ use Rattle.model.proofs.Tests.{by-test}
 use Rattle.model.proofs.Lists.{count-few}
 use Rattle.model.proofs.State.{first-snoc, last-snoc}
 use Rattle.model.proofs.Unchecked.{length-history}
-use Rattle.format.specs.Base.{base}
+use Rattle.format.specs.Format.{formatOf}
 use Rattle.index.specs.Kept.{before}
 use Rattle.lookup.specs.Search.{mainFrom}
 
@@ -84,10 +84,10 @@ module _ (board : List ℕ) (n : ℕ) where
   from k = drop (k - 1) h
 
   from-k : (k : ℕ) → 1 ≤ k → k ≤ n → from k ≡ entry h k ∷ from (k + 1)
-  from-k k s l = from-entry h k s (omega (arith, length-history base board n))
+  from-k k s l = from-entry h k s (omega (arith, length-history (formatOf board) board n))
 
   from-past : (k : ℕ) → n < k → from k ≡ []
-  from-past k l = drop-of-length-le h {i = k - 1} (omega (arith, length-history base board n))
+  from-past k l = drop-of-length-le h {i = k - 1} (omega (arith, length-history (formatOf board) board n))
 
   -- ---- up from the first item
 
@@ -112,7 +112,7 @@ module _ (board : List ℕ) (n : ℕ) where
   upTo k = take k h
 
   pub to-all : upTo n ≡ h
-  to-all = take-all n h (omega (arith, length-history base board n))
+  to-all = take-all n h (omega (arith, length-history (formatOf board) board n))
 
   module _ (p : Entry → Bool) where
     pub last-ends : (k : ℕ) → k ≡ 0 → last p (upTo k) ≡ 0
@@ -125,7 +125,7 @@ module _ (board : List ℕ) (n : ℕ) where
 
     module _ (k : ℕ) (s : 1 ≤ k) (l : k ≤ n) where
       within : k ≤ length h
-      within = omega (arith, length-history base board n)
+      within = omega (arith, length-history (formatOf board) board n)
 
       size : suc (length (upTo (k - 1))) ≡ k
       size = omega (arith, length-take-le (k - 1) h (omega (arith, within)))

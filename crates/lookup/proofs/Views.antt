@@ -15,7 +15,7 @@ use Rattle.model.specs.Item as model
 use Rattle.model.specs.Item.{itemAt, code}
 use Rattle.model.specs.History.{Entry, entry, main, childOf}
 use Rattle.model.specs.Phase.{sessionOf}
-use Rattle.format.specs.Base.{base}
+use Rattle.format.specs.Format.{formatOf}
 use Rattle.format.specs.Layout.{itemOf}
 use Rattle.index.specs.declared.Known.{Known}
 use Rattle.index.specs.Kept.{before, Kept}
@@ -29,7 +29,7 @@ pub from-known : {board : List ℕ} {e : Entry} {c : Known} → IsKnown board e 
 unfolding itemOf
 from-known {board} {e} {c} is =
     let place : c .item .place ≡ e .place = ap (λ (k : Known). k .item .place) (is .same) in
-    λ j. record { place = place j; item = (ap (itemAt base board) place ∙ sym (is .item)) j; parent = known-parent is j; session = known-session is j }
+    λ j. record { place = place j; item = (ap (itemAt (formatOf board) board) place ∙ sym (is .item)) j; parent = known-parent is j; session = known-session is j }
 
 pub is-known : {board : List ℕ} {e : Entry} {c : Known} → IsKnown board e c → IsKnown board (entryFrom board c) c
 is-known is = rw (from-known is) is
@@ -74,5 +74,5 @@ pub session-words : {board index : List ℕ} {n k : ℕ} {c : Known} → Kept bo
     → c .item .head .code ≡ sessionType → 1 ≤ c .item .head .count
 unfolding hasWords
 session-words {k = k} kept s l is e =
-    let words = entry-words kept k s l sessionType 1 19 tt (sym (known-code is) ∙ e) in
+    let words = entry-words kept k s l sessionType 1 26 tt (sym (known-code is) ∙ e) in
     rw (known-item is) (words .0)

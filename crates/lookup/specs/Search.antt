@@ -6,12 +6,12 @@ use Rattle.model.specs.Lists.{if_then_else_}
 use Rattle.model.specs.Words.{sameWords}
 use Rattle.model.specs.Item.{itemAt}
 use Rattle.model.specs.History.{History, Entry, main}
-use Rattle.format.specs.Base.{base}
+use Rattle.format.specs.Format.{formatOf}
 use Rattle.index.specs.declared.Known.{Known}
 
 -- the entry that the code's view of an item stands for
 abbrev pub entryFrom : List ℕ → Known → Entry
-entryFrom board c = record { place = c .item .place; item = itemAt base board (c .item .place); parent = c .parent; session = c .session }
+entryFrom board c = record { place = c .item .place; item = itemAt (formatOf board) board (c .item .place); parent = c .parent; session = c .session }
 
 -- a main item, or a hidden one, with that address
 abbrev pub addressed : Bool → List ℕ → Entry → Bool

@@ -8,10 +8,9 @@ ghost use lib.Dec.{eqb};
 ghost use Rattle.model.specs.Lists.{if_then_else_, part, any};
 ghost use Rattle.model.specs.Words.{mainKind};
 ghost use Rattle.model.specs.Codes.{sessionType};
-ghost use Rattle.model.specs.Item.{itemAt};
 ghost use Rattle.model.specs.History.{entry, first, last, parentNumber, sessionNumber, childOf};
 ghost use Rattle.model.specs.Phase.{sessionOf};
-ghost use Rattle.format.specs.Base.{base};
+ghost use Rattle.format.specs.Layout.{itemOn};
 ghost use Rattle.format.specs.Layout.{itemOf};
 ghost use Rattle.index.specs.Kept.{before, Kept};
 ghost use Rattle.index.specs.Known.{IsKnown};
@@ -78,7 +77,7 @@ pub fn parent_number(
 ) -> usize
     requires { ⌜ (Kept (now board) (now index) count) × (now parents ≡ parentChain (now board) count) ⌝ }
     requires { ⌜ (item ≡ itemOf (now board) (item .place)) × (item .end ≤ length (now board)) ⌝ }
-    ensures { λ r. ⌜ r ≡ parentNumber (before (now (board .entry)) count) (itemAt base (now (board .entry)) (item .place)) ⌝ }
+    ensures { λ r. ⌜ r ≡ parentNumber (before (now (board .entry)) count) (itemOn (now (board .entry)) (item .place)) ⌝ }
 {
     let code = item.head.code;
     if code == Head::GENESIS {
@@ -98,8 +97,8 @@ pub fn session_number(
 ) -> usize
     requires { ⌜ Kept (now board) (now index) count ⌝ }
     requires { ⌜ (item ≡ itemOf (now board) (item .place)) × (item .end ≤ length (now board)) ⌝ }
-    requires { ⌜ parent ≡ parentNumber (before (now board) count) (itemAt base (now board) (item .place)) ⌝ }
-    ensures { λ r. ⌜ r ≡ sessionNumber (before (now (board .entry)) count) (itemAt base (now (board .entry)) (item .place)) ⌝ }
+    requires { ⌜ parent ≡ parentNumber (before (now board) count) (itemOn (now board) (item .place)) ⌝ }
+    ensures { λ r. ⌜ r ≡ sessionNumber (before (now (board .entry)) count) (itemOn (now (board .entry)) (item .place)) ⌝ }
 {
     let code = item.head.code;
     if code == Head::GENESIS {

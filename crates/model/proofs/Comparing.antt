@@ -20,13 +20,13 @@ use Rattle.model.proofs.Tests.{tests, by-if, if-no, if-yes, neither}
 use Rattle.model.proofs.Lists.{count-keep}
 use Rattle.model.proofs.Parts.{map-take}
 use Rattle.model.proofs.Alone.{same-start}
-use Rattle.model.proofs.Comparison.{end-is, comparing}
+use Rattle.model.proofs.Comparison.{OneHash, end-is, comparing}
 use Rattle.model.proofs.Acceptance.{accepted↔sound}
 use Rattle.model.proofs.Report.{tables-keep, Numbered, audit-numbered}
 
 -- ---- two accepted boards, and a main number of the later one
 
-module _ {f : Format} {kb kv kr lb lv lr : List ℕ} {g h : History} (kept : Sound f kb kv kr g) (later : Sound f lb lv lr h)
+module _ {f f′ : Format} (one-hash : OneHash f f′) {kb kv kr lb lv lr : List ℕ} {g h : History} (kept : Sound f kb kv kr g) (later : Sound f′ lb lv lr h)
     (b : ℕ) (one : 1 ≤ b) (all : b ≤ count main h) where
   inside : b ≤ length (mainItems h)
   inside = rw (count-keep main (λ e. e .item) h) all
@@ -36,14 +36,14 @@ module _ {f : Format} {kb kv kr lb lv lr : List ℕ} {g h : History} (kept : Sou
   answer-is = if-no (outside b (count main h)) _ _ (simp neither (omega (arith, tests)))
 
   -- where the answer is same, the counted ballots and the keys up to there are the same
-  same-keys : compare (mainItems g) (mainItems h) b ≡ same → SameStart f g h b
+  same-keys : compare (mainItems g) (mainItems h) b ≡ same → SameStart f f′ g h b
   same-keys q =
-      let s = comparing kept later b one inside .same-is .0 q in
+      let s = comparing kept one-hash later b one inside .same-is .0 q in
       same-start (kept .passed) (later .passed) b (rw (length-map (mainItems h) unsigned) inside) (s .items ∙ map-take unsigned b (mainItems h))
 
-  pub answered : Answered f g h b (comparingAnswer (accepted g) (accepted h) b)
+  pub answered : Answered f f′ g h b (comparingAnswer (accepted g) (accepted h) b)
   answered =
-      let c = comparing kept later b one inside in
+      let c = comparing kept one-hash later b one inside in
       let is : (x : Comparison) → (comparingAnswer (accepted g) (accepted h) b ≡ compared x) ↔ (compare (mainItems g) (mainItems h) b ≡ x) =
       λ x. (λ e. cc answer-is, λ e. answer-is ∙ ap compared e) in
       record {
@@ -150,25 +150,26 @@ later-keeps (accepted g) held left e = e
 
 -- ---- the entry, from the words of both boards and what the four buffers held: the kept board's tables ki and kt, the later one's li and lt
 
-module _ (f : Format) (kb kv kr lb lv lr ki kt li lt : List ℕ) (b : ℕ) where
+module _ (f f′ : Format) (kb kv kr lb lv lr ki kt li lt : List ℕ) (b : ℕ) where
   abbrev kept : Outcome
   kept = audit f kb kv kr (length ki) (length kt)
 
   abbrev later : Outcome
-  later = audit f lb lv lr (length li) (length lt)
+  later = audit f′ lb lv lr (length li) (length lt)
 
   pub names-kept : (n k : ℕ) → (comparingAnswer kept later b ≡ refusedBoard keptBoard n k) ↔ Refuses f kept n k
   names-kept n k = kept-named f b n k kept later (audit-numbered f kb kv kr (length ki) (length kt))
 
   pub names-later : (n k : ℕ)
-      → (comparingAnswer kept later b ≡ refusedBoard laterBoard n k) ↔ ((g : History) × (kept ≡ accepted g) × (Refuses f later n k ⊎ NoSuch (count main) later b n k))
-  names-later n k = later-named-after f b n k kept later (audit-numbered f lb lv lr (length li) (length lt))
+      → (comparingAnswer kept later b ≡ refusedBoard laterBoard n k) ↔ ((g : History) × (kept ≡ accepted g) × (Refuses f′ later n k ⊎ NoSuch (count main) later b n k))
+  names-later n k = later-named-after f′ b n k kept later (audit-numbered f′ lb lv lr (length li) (length lt))
 
   pub later-tables-keep : (length (laterIndexAfter kept later li) ≡ length li) × (length (laterBallotsAfter kept later lt) ≡ length lt)
   later-tables-keep =
-      let (index, ballots) = tables-keep f lb lv lr li lt in
+      let (index, ballots) = tables-keep f′ lb lv lr li lt in
       (later-keeps kept li _ index, later-keeps kept lt _ ballots)
 
-  pub answered-audits : {g h : History} → kept ≡ accepted g → later ≡ accepted h → 1 ≤ b → b ≤ count main h → Answered f g h b (comparingAnswer kept later b)
-  answered-audits {g} {h} p q one all =
-      rw (p, q) (answered (accepted↔sound f kb kv kr _ _ g .0 p .0) (accepted↔sound f lb lv lr _ _ h .0 q .0) b one all)
+  pub answered-audits : {g h : History} → OneHash f f′ → kept ≡ accepted g → later ≡ accepted h → 1 ≤ b → b ≤ count main h
+      → Answered f f′ g h b (comparingAnswer kept later b)
+  answered-audits {g} {h} one-hash p q one all =
+      rw (p, q) (answered one-hash (accepted↔sound f kb kv kr _ _ g .0 p .0) (accepted↔sound f′ lb lv lr _ _ h .0 q .0) b one all)

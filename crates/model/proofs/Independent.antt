@@ -17,7 +17,7 @@ use Rattle.model.specs.History.{History, Entry, itemNo, itemsWith, main,
 use Rattle.model.specs.Links.{previousOk, parentOk, timeOk}
 use Rattle.model.specs.Phase.{sameRound, rounds, isOpen, sessionOf, extractionOk, openOk, standingOk, latestOk, intentOk, spoiledOk, phaseOk}
 use Rattle.model.specs.Only.{onBoardOk, underParentOk, underBallotOk, onlyOk}
-use Rattle.model.specs.Content.{defines, contestsOk, enables, mayVote, contestOk, thresholdOk, authorizerOk, roundOk, sessionOk, commitmentOk, ballotOk, fingerprintOk, trusteesOk, contentOk}
+use Rattle.model.specs.Content.{defines, contestsOk, enables, mayVote, genesisOk, contestOk, thresholdOk, authorizerOk, roundOk, sessionOk, commitmentOk, ballotContests, ballotOk, fingerprintOk, trusteesOk, contentOk}
 use Rattle.model.specs.Roll.{Eligibility}
 use Rattle.model.specs.Keys.{keyOf, goodVerdict}
 use Rattle.model.specs.Audit.{checks}
@@ -119,7 +119,7 @@ module _ {f : Format} {h : History} (o : Orderly f h) where
       rw (← first-main (typed 4) (view h) (λ e. refl) h only)
       (ap (λ (e : Entry). e .item .content) (sym (look h (first (typed 4) h) (first-at (typed 4) h only))))
 
-  contests-same : (w : ℕ) → contestsOk h w ≡ contestsOk (mains h) w
+  contests-same : (w : List ℕ) → contestsOk h w ≡ contestsOk (mains h) w
   unfolding contestsOk view
   contests-same w =
       rw (allIn-ext w (λ j. any (defines j) h) (λ j. any (defines j) (mains h))
@@ -241,7 +241,7 @@ module _ {f : Format} {h : History} (o : Orderly f h) where
 
     ballot-same : Same (ballotOk f)
     unfolding ballotOk
-    ballot-same = rw (allIn-ext (word 0 i) (mayVote h i) (mayVote (mains h) (unsigned i)) (λ j k u. vote-same j))
+    ballot-same = rw (allIn-ext (ballotContests f i) (mayVote h i) (mayVote (mains h) (unsigned i)) (λ j k u. vote-same j))
 
     fingerprint-same : Same (fingerprintOk f)
     unfolding fingerprintOk
@@ -252,7 +252,7 @@ module _ {f : Format} {h : History} (o : Orderly f h) where
     trustees-same = rw threshold-same
 
     content-same : Same (contentOk f)
-    unfolding contentOk contestOk thresholdOk authorizerOk commitmentOk
+    unfolding contentOk genesisOk contestOk thresholdOk authorizerOk commitmentOk
     content-same = rw (round-same, session-ok-same, ballot-same, fingerprint-same, trustees-same)
 
 -- ---- from one board to another

@@ -1,6 +1,6 @@
 -- What the program prints: it needs of the files only their byte counts and as many words as it has room for, and what it prints for empty
 -- files, for a sound board, and for genesis alone. Paper: "The auditing program". Assumes nothing.
-use Prim.Native.Nat.{ℕ, zero, suc, _*_, _/_, _%_, _≤_, _<_}
+use Prim.Native.Nat.{ℕ, zero, suc, _*_, _/_, _%_, _≤_, _<_, zero-le}
 use native.Mathlib.Omega.{arith}
 use native.Mathlib.Decide.{decLe}
 use mathlib.Core.Path.{_≡_, refl, sym, ap, _∙_}
@@ -15,7 +15,7 @@ use borrow.Author.Tests.{ltb-false, leb-false, eqb-true, eqb-false, eq-eqb, ne-e
 use Rattle.model.specs.Lists.{if_then_else_, count, keep, latest}
 use Rattle.model.specs.Words.{countOf}
 use Rattle.model.specs.Refusal.{tooLarge, truncated, badRoll}
-use Rattle.model.specs.Format.{Format, secp256r1, verdictSize}
+use Rattle.model.specs.Format.{Format, verdictSize}
 use Rattle.model.specs.Item.{itemLength, behind, code}
 use Rattle.model.specs.Types.{Row, rowOf, fits, table}
 use Rattle.model.specs.History.{History, main}
@@ -28,7 +28,7 @@ use Rattle.model.specs.Program.{fromBytes, bytesPerWord, programLimit, l
 use Rattle.model.proofs.Tests.{tests, by-test, is-true, is-false, by-if, if-yes, if-no, and-iff, not-iff, not-not}
 use Rattle.model.proofs.Parts.{part-take}
 use Rattle.model.proofs.Parsing.{length-words}
-use Rattle.model.proofs.Table.{countType, count-type-law}
+use Rattle.model.proofs.Table.{countWithin, count-within-law}
 use Rattle.model.proofs.Entries.{orderly, typed-main, first-genesis}
 use Rattle.model.proofs.Acceptance.{accepted↔sound}
 use Rattle.model.proofs.Roll.{good-roll}
@@ -106,18 +106,20 @@ roll-cut f ws vs roll index ballots =
 
 -- ---- the words of all files
 
+-- verdicts under which the items come out alike
+verdicts-cut : (f : Format) (ws vs vs′ roll : List ℕ) (index ballots : ℕ) → items f (onRoll roll) ws vs itemLimit [] 0 ≡ items f (onRoll roll) ws vs′ itemLimit [] 0
+    → audit f ws vs roll index ballots ≡ audit f ws vs′ roll index ballots
+unfolding audit
+verdicts-cut f ws vs vs′ roll index ballots e = rw e
+
 words-cut : (f : Format) (ws vs roll : List ℕ) → leastItem ≤ itemLength f 0 → length ws ≤ programLimit
     → audit f (take programLimit ws) (take verdictLimit vs) (take rollKept roll) indexNeed ballotNeed ≡ audit f ws vs roll indexNeed ballotNeed
-unfolding audit
 words-cut f ws vs roll least short =
     roll-cut f (take programLimit ws) (take verdictLimit vs) roll indexNeed ballotNeed
-    ∙ rw (take-all programLimit ws short, items-cut f (onRoll roll) ws vs least short itemLimit [] 0 (omega arith))
+    ∙ ap (λ (x : List ℕ). audit f x (take verdictLimit vs) roll indexNeed ballotNeed) (take-all programLimit ws short)
+    ∙ verdicts-cut f ws (take verdictLimit vs) vs roll indexNeed ballotNeed (items-cut f (onRoll roll) ws vs least short itemLimit [] 0 zero-le)
 
--- ---- the base's format
-
-pub base-least : (sha256 : List ℕ → List ℕ) → leastItem ≤ itemLength (secp256r1 sha256) 0
-unfolding itemLength
-base-least sha256 = omega arith
+-- ---- how many items
 
 -- items have at least so many words
 words-least : {f : Format} {on : Eligibility} {ws vs : List ℕ} {h : History} → leastItem ≤ itemLength f 0 → Passed f on ws vs h → leastItem * length h ≤ length ws
@@ -254,20 +256,20 @@ genesis-text {f} (e ∷ []) p one =
     let no-cast = ne-eqb (code (e .item)) 20 (omega arith) in
     rw (mains, no-cast, append-nil)
 
-genesis-words : {f : Format} {on : Eligibility} {ws vs : List ℕ} {h : History} → Passed f on ws vs h → length h ≡ 1 → length ws ≡ itemLength f 17
-unfolding countType table
+genesis-words : {f : Format} {on : Eligibility} {ws vs : List ℕ} {h : History} → Passed f on ws vs h → length h ≡ 1 → length ws ≤ itemLength f 18
+unfolding countWithin table itemLength
 genesis-words Passed.none one = absurd (omega arith)
 genesis-words (next ws vs h v i (next ws′ vs′ h′ v′ i′ p n) m) one = absurd (omega (arith, simp length-append at one))
 genesis-words {f} (next ws vs h v i Passed.none m) one =
-    let count = count-type-law 1 17 (countOf (i .head)) tt (m .listed) (eqb→eq (code i) 1 (first-genesis m)) (m .counted) in
-    length-words f i (m .shaped) ∙ ap (itemLength f) count
+    let count = count-within-law 1 17 18 (countOf (i .head)) tt (m .listed) (eqb→eq (code i) 1 (first-genesis m)) (m .counted) in
+    omega (arith, length-words f i (m .shaped))
 
 -- "A sound board of genesis alone prints `accepted 1 1 0 0`."
-pub genesis-printed : (sha256 : List ℕ → List ℕ) (board verdicts roll : List ℕ) {h : History}
-    → WholeFiles (secp256r1 sha256) board verdicts roll → Sound (secp256r1 sha256) (fromBytes board) (fromBytes verdicts) (fromBytes roll) h → length h ≡ 1
-    → printed (secp256r1 sha256) board verdicts roll ≡ 97 ∷ 99 ∷ 99 ∷ 101 ∷ 112 ∷ 116 ∷ 101 ∷ 100 ∷ 32 ∷ 49 ∷ 32 ∷ 49 ∷ 32 ∷ 48 ∷ 32 ∷ 48 ∷ 10 ∷ []
-unfolding acceptedLine spaced digits itemLength if_then_else_
-genesis-printed sha256 board verdicts roll {h} whole s one =
+pub genesis-printed : (f : Format) (board verdicts roll : List ℕ) {h : History} → itemLength f 18 < programLimit
+    → WholeFiles f board verdicts roll → Sound f (fromBytes board) (fromBytes verdicts) (fromBytes roll) h → length h ≡ 1
+    → printed f board verdicts roll ≡ 97 ∷ 99 ∷ 99 ∷ 101 ∷ 112 ∷ 116 ∷ 101 ∷ 100 ∷ 32 ∷ 49 ∷ 32 ∷ 49 ∷ 32 ∷ 48 ∷ 32 ∷ 48 ∷ 10 ∷ []
+unfolding acceptedLine spaced digits if_then_else_
+genesis-printed f board verdicts roll {h} fits whole s one =
     let short : length (fromBytes board) ≤ programLimit =
     omega (arith, genesis-words (s .passed) one, simp length-append at (ap length (s .closed))) in
-    sound-printed (secp256r1 sha256) board verdicts roll whole short s ∙ genesis-text h (s .passed) one
+    sound-printed f board verdicts roll whole short s ∙ genesis-text h (s .passed) one

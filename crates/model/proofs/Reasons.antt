@@ -10,7 +10,7 @@ use mathlib.Core.Bool.{not}
 use mathlib.Core.Option.{Option, none, some}
 use mathlib.Core.List.{List, [], _∷_, map}
 use lib.ListN.{length, getD}
-use lib.Dec.{eqb, leb}
+use lib.Dec.{T, eqb, leb, nleb→lt}
 use borrow.Author.Tests.{eqb-true, eqb-false}
 use Rattle.model.specs.Lists.{if_then_else_, any}
 use Rattle.model.specs.Words.{isClosing}
@@ -36,6 +36,10 @@ unfolding unmet firstUnmet firstNumber
 unmet-number [] = refl
 unmet-number (c ∷ cs) = by-test (c .met) (λ q. rw q (unmet-number cs)) (λ q. rw q)
 
+not-first : (rs : List Reason) (r : Reason) (rest : List Reason) → rs ≡ r ∷ rest → NoneOf rs → T (not (r .applies))
+unfolding any
+not-first rs r rest e u = neither (r .applies) (any (λ s. s .applies) rest) .0 (subst NoneOf e u) .0
+
 module _ (f : Format) (on : Eligibility) (ws vs : List ℕ) (k : ℕ) where
   by-row : (row : Option Row) → rowOf f (getD ws (placeOf f ws k) 0) ≡ row
       → firstNumber (itemReasons f on ws vs k) ≡ (if leb itemLimit k then tooLarge else faultIn f on ws vs row (history f ws k) (placeOf f ws k))
@@ -50,8 +54,8 @@ module _ (f : Format) (on : Eligibility) (ws vs : List ℕ) (k : ℕ) where
   fault-number l = sym (by-row _ refl ∙ if-no (leb itemLimit k) _ _ (omega (arith, tests)))
 
   pub few : NoneOf (itemReasons f on ws vs k) → k < itemLimit
-  unfolding itemReasons any
-  few u = omega (arith, tests, simp neither at u .0)
+  unfolding itemReasons
+  few u = nleb→lt itemLimit k (not-first (itemReasons f on ws vs k) _ _ refl u)
 
   -- no item has the number 0 for a refusal
   pub some-number : {n : ℕ} → FirstOf (itemReasons f on ws vs k) n → n ≢ noFault

@@ -53,10 +53,10 @@ laterIndexAfter kept later s = laterAfter kept s (indexAfter later s)
 abbrev pub laterBallotsAfter : Outcome → Outcome → List ℕ → List ℕ
 laterBallotsAfter kept later s = laterAfter kept s (ballotsAfter later s)
 
--- ---- what is promised of the answer for two accepted boards, the kept one with the history g and the later one with the history h,
--- where main number b is one of the later board's
+-- ---- what is promised of the answer for two accepted boards, the kept one of the format f with the history g and the later one of the
+-- format f′ with the history h, where main number b is one of the later board's
 
-pub record Answered (f : Format) (g h : History) (b : ℕ) (answer : ComparingAnswer) : Type 0 where
+pub record Answered (f f′ : Format) (g h : History) (b : ℕ) (answer : ComparingAnswer) : Type 0 where
   -- "apart exactly when the kept board's end address does not stand at that item"
   pub apart-is : (answer ≡ compared apart) ↔ (endAddress f g ≡ mainItem (mainItems h) b .address → ⊥)
   -- "same exactly when both have the same main items up to there", and it stands there; then a = b
@@ -65,7 +65,7 @@ pub record Answered (f : Format) (g h : History) (b : ℕ) (answer : ComparingAn
   pub same-pairs : let a = length (mainItems g) in
       (answer ≡ compared same) ↔ (SameAddress (mainItems g) (mainItems h) a b × Agreed (mainItems g) (mainItems h) a b (min a b))
   -- "hence the same keys and counted ballots"
-  pub same-start : answer ≡ compared same → SameStart f g h b
+  pub same-start : answer ≡ compared same → SameStart f f′ g h b
   -- a collision is reported exactly with a pair as demanded: "It never reports a collision without such a pair."
   pub collision-is : (x y : ℕ) → (answer ≡ compared (collision x y)) ↔ Collision f (mainItems g) (mainItems h) (length (mainItems g)) b x y
   -- "Where it stands there and they are not the same"

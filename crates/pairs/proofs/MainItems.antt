@@ -11,7 +11,7 @@ use Rattle.model.specs.History.{History, Entry, absent, entry, itemNo, main, ma
 use Rattle.model.proofs.Tests.{by-test}
 use Rattle.model.proofs.Lists.{turns}
 use Rattle.model.proofs.Unchecked.{length-history}
-use Rattle.format.specs.Base.{base}
+use Rattle.format.specs.Format.{formatOf}
 use Rattle.format.specs.Layout.{itemOf}
 use Rattle.index.specs.declared.Known.{Known}
 use Rattle.index.specs.Kept.{before}
@@ -59,14 +59,14 @@ known-read {board} {e} {c} is =
     let place : c .item .place ≡ e .place = ap (λ (k : Known). k .item .place) (is .same) in
     record {
       read = record { same = ap (λ (k : Known). k .item) (is .same) ∙ ap (itemOf board) (sym place); within = is .within };
-      item = ap (itemAt base board) place ∙ sym (is .item);
+      item = ap (itemAt (formatOf board) board) place ∙ sym (is .item);
     }
 
 module _ {board : List ℕ} {n number : ℕ} (asked : Numbered board n number) (k : ℕ) (found : k ≡ mainEntry (before board n) number) where
   pub main-number-in : (1 ≤ k) × (k ≤ n)
   main-number-in =
       let m = main-found (before board n) number (asked .some) (asked .few) in
-      (omega arith, omega (arith, length-history base board n))
+      (omega arith, omega (arith, length-history (formatOf board) board n))
 
   pub main-item-is : (c : Known) → IsKnown board (entry (before board n) k) c
       → IsItem board (mainItem (mainItems (before board n)) number) (c .item)

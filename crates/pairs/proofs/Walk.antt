@@ -15,18 +15,18 @@ use Rattle.model.specs.Compare.{Comparison, apart, same, collision, backwards, 
 use Rattle.model.proofs.Lists.{count-keep, count-few}
 use Rattle.model.proofs.Unchecked.{length-history}
 use Rattle.format.specs.declared.item.Item.{Item}
-use Rattle.format.specs.Base.{base}
+use Rattle.format.specs.Format.{formatOf}
 use Rattle.index.specs.Kept.{before, Kept}
 use Rattle.pairs.specs.Reading.{IsItem}
 use Rattle.pairs.proofs.Hashed.{address-read}
 
 -- a main number of a kept board fits a word
 pub mains-few : {board index : List ℕ} {n : ℕ} → Kept board index n → count main (before board n) ≤ 2048
-mains-few {board} {n = n} kept = omega (arith, count-few main (before board n), length-history base board n, kept .few)
+mains-few {board} {n = n} kept = omega (arith, count-few main (before board n), length-history (formatOf board) board n, kept .few)
 
 -- two items that are read: a test of what stands on the boards is that of the items
 pub items-hashed : {kept later : List ℕ} {i j : model.Item} {a b : Item} {r : Bool} → IsItem kept i a → IsItem later j b
-    → r ≡ sameWords (hashed (itemAt base kept (a .place))) (hashed (itemAt base later (b .place))) → r ≡ sameWords (hashed i) (hashed j)
+    → r ≡ sameWords (hashed (itemAt (formatOf kept) kept (a .place))) (hashed (itemAt (formatOf later) later (b .place))) → r ≡ sameWords (hashed i) (hashed j)
 items-hashed x y q = q ∙ rw (x .item, y .item)
 
 pub items-addressed : {kept later : List ℕ} {i j : model.Item} {a b : Item} {r : Bool} → IsItem kept i a → IsItem later j b

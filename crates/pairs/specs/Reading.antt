@@ -7,7 +7,7 @@ use Rattle.model.specs.Lists.{count}
 use Rattle.model.specs.Item as model
 use Rattle.model.specs.History.{main, mainItems, mainItem}
 use Rattle.format.specs.declared.item.Item.{Item}
-use Rattle.format.specs.Base.{base}
+use Rattle.format.specs.Format.{formatOf}
 use Rattle.format.specs.Layout.{itemOf}
 use Rattle.index.specs.Kept.{before}
 
@@ -19,7 +19,7 @@ pub record Read (board : List ℕ) (i : Item) : Type 0 where
 -- r is where the item i stands on the board
 pub record IsItem (board : List ℕ) (i : model.Item) (r : Item) : Type 0 where
   pub read : Read board r
-  pub item : model.itemAt base board (r .place) ≡ i
+  pub item : model.itemAt (formatOf board) board (r .place) ≡ i
 
 -- the main items among the first n items of a board
 abbrev pub mainsOf : List ℕ → ℕ → List model.Item
@@ -27,7 +27,7 @@ mainsOf board n = mainItems (before board n)
 
 -- "these are the item's hashed words": of the item at a place, and of main item k of the first n items
 abbrev pub hashedAt : List ℕ → ℕ → List ℕ
-hashedAt board place = model.hashed (model.itemAt base board place)
+hashedAt board place = model.hashed (model.itemAt (formatOf board) board place)
 
 abbrev pub hashedMain : List ℕ → ℕ → ℕ → List ℕ
 hashedMain board n k = model.hashed (mainItem (mainsOf board n) k)

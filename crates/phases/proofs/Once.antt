@@ -19,7 +19,7 @@ use Rattle.model.proofs.Tests.{passes, is-true, facts}
 use Rattle.model.proofs.Entries.{Opens, orderly}
 use Rattle.model.proofs.Closers.{closer-none, any-closer}
 use Rattle.model.proofs.Unchecked.{length-history}
-use Rattle.format.specs.Base.{base}
+use Rattle.format.specs.Format.{formatOf}
 use Rattle.index.specs.Kept.{before, itemAfter}
 use Rattle.index.specs.declared.Known.{Known}
 use Rattle.state.specs.declared.State.{State}
@@ -41,7 +41,7 @@ module _ {board index : List ℕ} {s : State} {c : Known} (a : AtItem board inde
   i = itemAfter board (s .items)
 
   any-genesis : any (typed genesisType) h ≡ not (eqb (s .items) 0)
-  any-genesis = any-opens h (orderly (a .kept .passed) .opens) ∙ ap (λ (k : ℕ). not (eqb k 0)) (length-history base board (s .items))
+  any-genesis = any-opens h (orderly (a .kept .passed) .opens) ∙ ap (λ (k : ℕ). not (eqb k 0)) (length-history (formatOf board) board (s .items))
 
   -- ---- types 1 and 4
 

@@ -17,7 +17,7 @@ use Rattle.model.specs.Phase.{trackBallot, isSpoiled, spoiledOk}
 use Rattle.model.proofs.Closers.{closer-none, closer-bound}
 use Rattle.model.proofs.Openings.{spoiled-by}
 use Rattle.model.proofs.Unchecked.{length-history}
-use Rattle.format.specs.Base.{base}
+use Rattle.format.specs.Format.{formatOf}
 use Rattle.index.specs.Kept.{before, itemAfter, Kept}
 use Rattle.index.specs.Known.{IsKnown}
 use Rattle.index.specs.declared.Known.{Known}
@@ -36,7 +36,7 @@ module _ {board index : List ℕ} {n : ℕ} (kept : Kept board index n) (k r : �
       sym (spoiled-by (kept .passed) k ∙ ap (λ (x : ℕ). eqb (code (itemNo (before board n) x)) spoilType) (sym is ∙ q))
 
   pub closer-in : r ≢ 0 → (1 ≤ r) × (r ≤ n)
-  closer-in q = (omega arith, omega (arith, closer-bound (before board n) k, length-history base board n))
+  closer-in q = (omega arith, omega (arith, closer-bound (before board n) k, length-history (formatOf board) board n))
 
   pub closed-by : {e : Known} → IsKnown board (entry (before board n) r) e
       → eqb (e .item .head .code) spoilType ≡ isSpoiled (before board n) k

@@ -17,7 +17,7 @@ use Rattle.model.specs.Phase.{rounds, isOpen, sessionOf, extractionOk, openOk, 
 use Rattle.model.proofs.Tests.{passes, facts}
 use Rattle.model.proofs.State.{any-first, any-last}
 use Rattle.model.proofs.Unchecked.{length-history}
-use Rattle.format.specs.Base.{base}
+use Rattle.format.specs.Format.{formatOf}
 use Rattle.format.specs.Phase.{phaseNumber}
 use Rattle.index.specs.Kept.{before, itemAfter}
 use Rattle.index.specs.declared.Known.{Known}
@@ -109,7 +109,7 @@ module _ {board index : List ℕ} {s : State} {c : Known} (a : AtItem board inde
 
     pub session-under : IsSession h (c .session)
     session-under = record {
-      bound = rw (length-history base board (s .items)) (session-in-range a not-session);
+      bound = rw (length-history (formatOf board) board (s .items)) (session-in-range a not-session);
       session = λ l. eqb→eq (code (itemNo h (c .session))) sessionType (session-is a not-session l);
     }
 

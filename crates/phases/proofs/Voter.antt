@@ -9,7 +9,7 @@ use Rattle.model.specs.Codes.{sessionType}
 use Rattle.model.specs.Item.{itemLength}
 use Rattle.model.specs.History.{History, entry, itemNo, sessionVoter}
 use Rattle.model.proofs.Unchecked.{length-history}
-use Rattle.format.specs.Base.{base}
+use Rattle.format.specs.Format.{formatOf}
 use Rattle.format.specs.Layout.{itemOf}
 use Rattle.format.specs.declared.item.Item.{Item}
 use Rattle.index.specs.Kept.{before, Kept}
@@ -25,14 +25,14 @@ no-voter h k q = rw q
 
 module _ {board index : List ℕ} {n k : ℕ} (kept : Kept board index n) (a : IsSession (before board n) k) (some : k ≢ 0) where
   pub session-range : (1 ≤ k) × (k ≤ n)
-  session-range = let bound = a .bound in let size = length-history base board n in (omega arith, omega arith)
+  session-range = let bound = a .bound in let size = length-history (formatOf board) board n in (omega arith, omega arith)
 
   module _ {e : Known} (is : IsKnown board (entry (before board n) k) e) where
-    session-words : e .item .head .count ≡ 19
+    session-words : 19 ≤ e .item .head .count
     unfolding hasWords
     session-words =
         let (low, high) = session-range in
-        let size = entry-words kept k low high sessionType 19 19 tt (a .session low) in
+        let size = entry-words kept k low high sessionType 19 26 tt (a .session low) in
         omega (arith, ap (λ (i : Item). i .head .count) (known-item is))
 
     pub voter-within : e .item .content < length board

@@ -11,17 +11,18 @@ use Rattle.model.proofs.Tests.{by-test}
 use Rattle.model.specs.Format.{Format}
 use Rattle.model.specs.Audit.{Outcome, unread, refused, accepted, audit, ballotRow, ballotNeed}
 use Rattle.model.specs.Report.{Report, reportOf, ballotsAfter}
-use Rattle.model.specs.Program.{fromBytes, bytesPerWord, programLimit, verdictLimit, rollKept, textOf, sized, programOutcome, printed}
+use Rattle.model.specs.Program.{fromBytes, bytesPerWord, programLimit, verdictLimit, rollKept, textOf, sized, programOutcome, filesOutcome, printed}
 use Rattle.model.proofs.Report.{audit-numbered}
 use Rattle.model.proofs.Bound.{few-ballots}
 use Rattle.sha256_block.specs.Fips.{sha256Words}
 use Rattle.model.proofs.Acceptance.{accepted↔sound}
-use Rattle.model.proofs.Program.{length-from-bytes, base-least}
-use Rattle.format.specs.Base.{base}
+use Rattle.model.proofs.Program.{length-from-bytes}
+use Rattle.model.proofs.Traits.{least-item, format-take}
+use Rattle.format.specs.Format.{formatOf}
 use Rattle.text.specs.Answer.{textFrom, reportText}
 use Rattle.text.specs.Put.{Shown}
 use Rattle.text.proofs.Answer.{reportText-textOf, textFrom-sized}
-use Rattle.text.proofs.Files.{kept-enough}
+use Rattle.text.proofs.Files.{fromBytes-take, kept-enough}
 use Rattle.refusal.specs.Number.{numberOf, foundOf}
 use Rattle.refusal.specs.declared.Refusal.{Refusal}
 use Rattle.refusal.proofs.Laws.{number-some}
@@ -31,9 +32,9 @@ use Rattle.program.specs.Read.{Read}
 
 -- the text of the audit, from its report and the ballot table behind it
 pub audit-shown : (ws vs rs t t′ : List ℕ) (i b : ℕ) (r : Report) {l m : List ℕ} {k : ℕ}
-    → r ≡ reportOf base (audit base ws vs rs i b) → t′ ≡ ballotsAfter (audit base ws vs rs i b) t
-    → Shown l (reportText r t′) m k → Shown l (textOf (audit base ws vs rs i b)) m k
-audit-shown ws vs rs t t′ i b r e e′ s = rw (e, e′, reportText-textOf base (audit base ws vs rs i b) t (audit-numbered base ws vs rs i b)) at s
+    → r ≡ reportOf (formatOf ws) (audit (formatOf ws) ws vs rs i b) → t′ ≡ ballotsAfter (audit (formatOf ws) ws vs rs i b) t
+    → Shown l (reportText r t′) m k → Shown l (textOf (audit (formatOf ws) ws vs rs i b)) m k
+audit-shown ws vs rs t t′ i b r e e′ s = rw (e, e′, reportText-textOf (formatOf ws) (audit (formatOf ws) ws vs rs i b) t (audit-numbered (formatOf ws) ws vs rs i b)) at s
 
 -- the words of some bytes, in front of others
 pub front : (bs w : List ℕ) (n : ℕ) → n ≡ length bs / bytesPerWord → take n (fromBytes bs ++ w) ≡ fromBytes bs
@@ -78,12 +79,26 @@ take-min i l =
 kept : (buffer file : List ℕ) (i p : ℕ) → p ≡ min i (length buffer) → Read buffer i file → take p buffer ≡ take (length buffer) file
 kept buffer file i p e r = rw (e, take-min) (sym (r .bytes))
 
+-- the format of a board is that of the bytes that are kept
+kept-format : (b : List ℕ) → formatOf (fromBytes (take (bytesPerWord * programLimit) b)) ≡ formatOf (fromBytes b)
+kept-format b = ap formatOf (fromBytes-take programLimit (bytesPerWord * programLimit) b refl) ∙ format-take sha256Words programLimit (fromBytes b) (omega arith)
+
+-- the outcome for files, from the bytes that are kept of them
+kept-outcome : (b v w : List ℕ)
+    → programOutcome (formatOf (fromBytes (take (bytesPerWord * programLimit) b))) (length b) (length v) (length w)
+    (fromBytes (take (bytesPerWord * programLimit) b)) (fromBytes (take (bytesPerWord * verdictLimit) v)) (fromBytes (take (bytesPerWord * rollKept) w))
+    ≡ filesOutcome (formatOf (fromBytes b)) b v w
+kept-outcome b v w =
+    ap (λ (f : Format). programOutcome f (length b) (length v) (length w)
+    (fromBytes (take (bytesPerWord * programLimit) b)) (fromBytes (take (bytesPerWord * verdictLimit) v)) (fromBytes (take (bytesPerWord * rollKept) w))) (kept-format b)
+    ∙ kept-enough (formatOf (fromBytes b)) b v w (least-item sha256Words (fromBytes b))
+
 -- what is printed for files, from the bytes that are kept of them
 pub printed-shown : (board verdicts roll b v w : List ℕ) (i j n p q r : ℕ) {l m : List ℕ} {k : ℕ}
     → length board ≡ bytesPerWord * programLimit → length verdicts ≡ bytesPerWord * verdictLimit → length roll ≡ bytesPerWord * rollKept
     → p ≡ min i (length board) → q ≡ min j (length verdicts) → r ≡ min n (length roll) → Read board i b → Read verdicts j v → Read roll n w
-    → Shown l (textOf (programOutcome base i j n (fromBytes (take p board)) (fromBytes (take q verdicts)) (fromBytes (take r roll)))) m k
-    → Shown l (printed base b v w) m k
+    → Shown l (textOf (programOutcome (formatOf (fromBytes (take p board))) i j n (fromBytes (take p board)) (fromBytes (take q verdicts)) (fromBytes (take r roll)))) m k
+    → Shown l (printed (formatOf (fromBytes b)) b v w) m k
 printed-shown board verdicts roll b v w i j n p q r eb ev er ep eq en x y z s =
     rw (
       kept board b i p ep x,
@@ -95,5 +110,5 @@ printed-shown board verdicts roll b v w i j n p q r eb ev er ep eq en x y z s =
       ← x .whole,
       ← y .whole,
       ← z .whole,
-      kept-enough base b v w (base-least sha256Words),
+      kept-outcome b v w,
     ) at s

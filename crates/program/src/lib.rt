@@ -5,7 +5,7 @@ ghost use Prim.Native.Nat.{ℕ, _+_, _*_, _≤_, min};
 ghost use lib.ListN.{length};
 ghost use Rattle.model.specs.Audit.{ballotRow};
 ghost use Rattle.model.specs.Program.{fromBytes, printed};
-ghost use Rattle.format.specs.Base.{base};
+ghost use Rattle.format.specs.Format.{formatOf};
 ghost use Rattle.text.specs.Answer.{reportText};
 ghost use Rattle.report.specs.Reported.{reported};
 ghost use Rattle.text.specs.Put.{Shown};
@@ -129,7 +129,7 @@ pub fn answer(out: &mut [u8], sizes: Sizes, board: &[u8], verdicts: &[u8], roll:
         → Read (now (board .entry)) (sizes .board) b
         → Read (now (verdicts .entry)) (sizes .verdicts) v
         → Read (now (roll .entry)) (sizes .roll) w
-        → Shown (now (out .entry)) (printed base b v w) (now (out .exit)) r) ⌝ }
+        → Shown (now (out .entry)) (printed (formatOf (fromBytes b)) b v w) (now (out .exit)) r) ⌝ }
 {
     let first = held(sizes.board, board.len());
     let second = held(sizes.verdicts, verdicts.len());

@@ -1,9 +1,10 @@
 // What an audit answers.
 ghost use mathlib.Core.Path.{_≡_};
-ghost use Prim.Native.Nat.{_≤_};
+ghost use mathlib.Core.List.{List};
+ghost use Prim.Native.Nat.{ℕ, _≤_};
 ghost use Rattle.model.specs.Audit.{itemLimit, refused};
 ghost use Rattle.model.specs.Report.{reportOf};
-ghost use Rattle.format.specs.Base.{base};
+ghost use Rattle.format.specs.Format.{formatOf};
 ghost use Rattle.refusal.specs.Number.{numberOf};
 ghost use Rattle.report.specs.Reported.{reported};
 use format::item::Item;
@@ -34,7 +35,7 @@ impl Report {
     // A refusal after so many items.
     pub fn refused(refusal: Refusal, items: usize) -> Self
         requires { ⌜ items ≤ itemLimit ⌝ }
-        ensures { λ r. ⌜ reported r ≡ reportOf base (refused (numberOf refusal) items) ⌝ }
+        ensures { λ r. ⌜ ((board : List ℕ) → reported r ≡ reportOf (formatOf board) (refused (numberOf refusal) items)) ⌝ }
     {
         Report {
             answer: Answer::Refused {

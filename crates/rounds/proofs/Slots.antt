@@ -6,7 +6,7 @@ use mathlib.Core.Path.{_≡_, refl, _∙_}
 use mathlib.Core.Bool.{Bool, true, false}
 use mathlib.Core.List.{List}
 use lib.Bits.{bitOr}
-use lib.ListN.{getD}
+use lib.ListN.{getD, replicate, getD-replicate}
 use lib.Dec.{T, eqb, eqb→eq}
 use borrow.Author.Tests.{ne-eqb}
 use Rattle.model.specs.Lists.{any}
@@ -19,11 +19,11 @@ use Rattle.model.proofs.Lists.{every}
 use Rattle.model.proofs.Numbers.{last-found}
 use Rattle.model.proofs.State.{any-last}
 use Rattle.index.specs.Kept.{before, Kept}
-use Rattle.state.specs.Standing.{anyBelow, unionBelow, numbered, roundAt, openContests, enabledSet}
+use Rattle.state.specs.Standing.{anyBelow, unionBelow, numbered, roundAt, openWord, enabledWord}
 use Rattle.state.specs.declared.State.{State}
 use Rattle.state.specs.Stands.{Stands}
 use Rattle.state.proofs.Rounds.{anyBelow-none, anyBelow-found, unionBelow-next, roundAt-bound, any-rounds, rounds-small}
-use Rattle.rounds.specs.Open.{InForce, openUnder, contestsUnder}
+use Rattle.rounds.specs.Open.{InForce, openUnder, wordUnder}
 
 -- the round in force with the number j is a round
 pub force-at : (h : History) (j : ℕ) → InForce h (roundAt h j)
@@ -45,21 +45,22 @@ pub openBelow-none : (t : ℕ) (h : History) → openBelow t h 0 ≡ false
 unfolding anyBelow
 openBelow-none t h = refl
 
--- the contests of those that do
-abbrev pub contestsBelow : ℕ → History → ℕ → ℕ
-contestsBelow t h j = unionBelow j (openContests t h)
+-- an array holds the contests of those that do
+abbrev pub Enabled : ℕ → History → ℕ → List ℕ → Type 0
+Enabled t h j set = (i : ℕ) → i < 8 → getD set i 0 ≡ unionBelow j (openWord t h i)
 
-pub contestsBelow-none : (t : ℕ) (h : History) → contestsBelow t h 0 ≡ 0
+pub enabled-none : (t : ℕ) (h : History) → Enabled t h 0 (replicate 8 0)
 unfolding unionBelow
-contestsBelow-none t h = refl
+enabled-none t h i l = getD-replicate 8 i 0 0 l
 
-contests-slot : (t : ℕ) (h : History) (j : ℕ) → openContests t h j ≡ contestsUnder t h (roundAt h j)
-unfolding openContests contestsUnder openUnder
-contests-slot t h j = refl
+word-slot : (t : ℕ) (h : History) (i j : ℕ) → openWord t h i j ≡ wordUnder t h i (roundAt h j)
+unfolding openWord wordUnder openUnder
+word-slot t h i j = refl
 
-pub contestsBelow-all : (t : ℕ) (h : History) (j : ℕ) → j ≤ 16 → 16 ≤ j → contestsBelow t h j ≡ enabledSet t h
-unfolding enabledSet
-contestsBelow-all t h j l m = let all : j ≡ 16 = omega arith in rw all
+pub enabled-all : (t : ℕ) (h : History) (j : ℕ) (set : List ℕ) → j ≤ 16 → 16 ≤ j → Enabled t h j set
+    → (i : ℕ) → i < 8 → getD set i 0 ≡ enabledWord t h i
+unfolding enabledWord
+enabled-all t h j set l m is i few = let all : j ≡ 16 = omega arith in is i few ∙ rw all
 
 openBelow-rounds : {board index : List ℕ} {n : ℕ} → Kept board index n → (t : ℕ)
     → any (isOpen t) (rounds (before board n)) ≡ openBelow t (before board n) 16
@@ -87,9 +88,9 @@ module _ {board index : List ℕ} {s : State} (kept : Kept board index (s .items
         → openBelow t h (j + 1) ≡ false
     open-next none q = anyBelow-none (λ i. openUnder t h (roundAt h i)) j none (rw slot at q)
 
-    pub contests-next : (old new : ℕ) → old ≡ contestsBelow t h j → new ≡ contestsUnder t h k
-        → bitOr old new ≡ contestsBelow t h (j + 1)
-    contests-next old new p q = rw (unionBelow-next (openContests t h) j, contests-slot t h j, ← slot, p, q)
+    pub enabled-next : (old new : List ℕ) → Enabled t h j old → ((i : ℕ) → i < 8 → getD new i 0 ≡ bitOr (getD old i 0) (wordUnder t h i k))
+        → Enabled t h (j + 1) new
+    enabled-next old new p q i few = q i few ∙ rw (p i few, unionBelow-next (openWord t h i) j, word-slot t h i j, ← slot)
 
 -- after the last
 pub open-none : {board index : List ℕ} {n : ℕ} → Kept board index n → (t j : ℕ) → j ≤ 16 → 16 ≤ j → openBelow t (before board n) j ≡ false

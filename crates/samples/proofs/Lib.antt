@@ -4,3 +4,4 @@ pub mod SampleBoard
 pub mod SampleElection
 pub mod SampleTrack
 pub mod SampleRoll
+pub mod SampleWide

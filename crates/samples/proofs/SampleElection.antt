@@ -8,8 +8,9 @@ use lib.ListN.{length, replicate, getD}
 use lib.Dec.{lit≤}
 use lib.Count.{onesIn}
 use Rattle.model.specs.Lists.{if_then_else_, _⇒_, part, any, count, keep, latest}
-use Rattle.model.specs.Words.{kindOf, codeOf, countOf, sameWords, pair, closingWord, lowZero, member, everyBelow, allIn}
+use Rattle.model.specs.Words.{kindOf, codeOf, countOf, sameWords, pair, closingWord, lowZero, bit, inWords, size, everyBelow, allIn}
 use Rattle.model.specs.Format.{Format, secp256r1, keySize}
+use Rattle.model.specs.Traits.{traitsKnown}
 use Rattle.model.specs.Item.{Item, itemLength, itemAt, hashed, wordsOf}
 use Rattle.model.specs.Types.{rowOf, rowIn, table, fits}
 use Rattle.model.specs.History.{History, main, entry, firstFrom, lastFrom, mainItem, endAfter, endAddress, parentNumber, sessionNumber, entryOf, closer, placeOf, history}
@@ -17,7 +18,7 @@ use Rattle.model.specs.Counted.{Vote, voteOf, counted, contents, totalWeight}
 use Rattle.model.specs.Links.{addressOk, previousOk, parentOk, timeOk}
 use Rattle.model.specs.Phase.{rounds, isOpen, extractionOk, openOk, standingOk, latestOk, intentOk, spoiledOk, phaseOk}
 use Rattle.model.specs.Only.{onBoardOk, underParentOk, underBallotOk, onlyOk}
-use Rattle.model.specs.Content.{contestsOk, mayVote, cryptogramsOk, contestOk, thresholdOk, authorizerOk, roundOk, sessionOk, commitmentOk, ballotOk, fingerprintOk, trusteesOk, contentOk}
+use Rattle.model.specs.Content.{contestsOk, mayVote, cryptogramsOk, genesisOk, contestOk, thresholdOk, authorizerOk, roundOk, sessionOk, commitmentOk, ballotOk, fingerprintOk, trusteesOk, contentOk}
 use Rattle.model.specs.Roll.{electors, rising, isBadRoll, onRoll, onRollOk}
 use Rattle.model.specs.Keys.{opening, keyOf, goodVerdict, verdictOk, keyOk, signatureOk}
 use Rattle.model.specs.Audit.{Outcome, unread, refused, accepted, firstUnmet, checks, faultIn, closing, judged, wordAt, items, audit, indexNeed, ballotNeed}
@@ -30,7 +31,7 @@ use Rattle.model.proofs.Unchecked.{length-history, accepted-history}
 
 -- the last word, eight times over: of an item's hashed words that is the low word of its time
 abbrev pub toy : Format
-toy = secp256r1 (λ ws. replicate 8 (getD ws (length ws - 1) 0))
+toy = secp256r1 (λ ws. replicate 8 (getD ws (length ws - 1) 0)) 1
 
 -- an item: its head and content, and eight times each the times of its parent, of the item before it and of itself
 abbrev pub item : ℕ → List ℕ → ℕ → ℕ → ℕ → Item
@@ -111,7 +112,7 @@ items-in (refused n k) = 0
 items-in (accepted h) = length h
 
 all-accepted : items-in (audit toy board verdicts roll indexNeed ballotNeed) ≡ 21
-unfolding election wordsIn verdictsIn wordsOf hashed if_then_else_ _⇒_ part any count keep latest onesIn kindOf codeOf countOf sameWords pair lowZero member everyBelow allIn itemLength itemAt rowOf rowIn table fits entry firstFrom lastFrom mainItem endAfter endAddress parentNumber sessionNumber entryOf placeOf history voteOf counted contents addressOk previousOk parentOk timeOk rounds isOpen extractionOk openOk standingOk latestOk intentOk spoiledOk phaseOk onBoardOk underParentOk underBallotOk onlyOk contestsOk mayVote cryptogramsOk contestOk thresholdOk authorizerOk roundOk sessionOk commitmentOk ballotOk fingerprintOk trusteesOk contentOk electors rising isBadRoll onRoll onRollOk opening keyOf verdictOk keyOk signatureOk firstUnmet checks faultIn closing judged wordAt items audit items-in
+unfolding election wordsIn verdictsIn wordsOf hashed if_then_else_ _⇒_ part any count keep latest onesIn kindOf codeOf countOf sameWords pair lowZero bit inWords size everyBelow allIn itemLength itemAt rowOf rowIn table fits entry firstFrom lastFrom mainItem endAfter endAddress parentNumber sessionNumber entryOf placeOf history voteOf counted contents addressOk previousOk parentOk timeOk rounds isOpen extractionOk openOk standingOk latestOk intentOk spoiledOk phaseOk onBoardOk underParentOk underBallotOk onlyOk contestsOk mayVote cryptogramsOk genesisOk traitsKnown contestOk thresholdOk authorizerOk roundOk sessionOk commitmentOk ballotOk fingerprintOk trusteesOk contentOk electors rising isBadRoll onRoll onRollOk opening keyOf verdictOk keyOk signatureOk firstUnmet checks faultIn closing judged wordAt items audit items-in
 all-accepted = refl
 
 -- so it is accepted, with its first items

@@ -22,7 +22,7 @@ use Rattle.model.proofs.Numbers.{entry-append, entry-snoc}
 use Rattle.model.proofs.Entries.{Fine, fine-at, orderly, parent-bound, session-genesis, session-own, session-up}
 use Rattle.model.proofs.State.{last-snoc, lastMain-snoc, endAddress-snoc}
 use Rattle.model.proofs.Unchecked.{length-history}
-use Rattle.format.specs.Base.{base}
+use Rattle.format.specs.Format.{formatOf}
 use Rattle.format.specs.Layout.{itemOf}
 use Rattle.format.specs.declared.item.Item.{Item}
 use Rattle.format.proofs.Places.{content-is, parent-is, previous-is, stamp-is, time-is, signature-is, address-is, hashed-is}
@@ -76,7 +76,7 @@ module _ {board index : List ℕ} {s : State} {c : Known} (a : AtItem board inde
   pub at-places : Places
   unfolding itemOf itemLength
   at-places =
-      let at : c .item ≡ itemOf board (placeOf base board (s .items)) = next-item at-next in
+      let at : c .item ≡ itemOf board (placeOf (formatOf board) board (s .items)) = next-item at-next in
       record {
         place = rw (at, a .stands .place);
         content = rw (at, a .stands .place);
@@ -91,29 +91,29 @@ module _ {board index : List ℕ} {s : State} {c : Known} (a : AtItem board inde
 
   -- the words at its places are its parts
   pub at-content-words : part (c .item .content) (c .item .head .count) board ≡ itemAfter board (s .items) .content
-  at-content-words = rw (next-item at-next) (content-is board (placeOf base board (s .items)))
+  at-content-words = rw (next-item at-next) (content-is board (placeOf (formatOf board) board (s .items)))
 
-  pub at-parent-words : part (c .item .parent) (base .address) board ≡ itemAfter board (s .items) .parent
-  at-parent-words = rw (next-item at-next) (parent-is board (placeOf base board (s .items)))
+  pub at-parent-words : part (c .item .parent) (formatOf board .address) board ≡ itemAfter board (s .items) .parent
+  at-parent-words = rw (next-item at-next) (parent-is board (placeOf (formatOf board) board (s .items)))
 
-  pub at-previous-words : part (c .item .previous) (base .address) board ≡ itemAfter board (s .items) .previous
-  at-previous-words = rw (next-item at-next) (previous-is board (placeOf base board (s .items)))
+  pub at-previous-words : part (c .item .previous) (formatOf board .address) board ≡ itemAfter board (s .items) .previous
+  at-previous-words = rw (next-item at-next) (previous-is board (placeOf (formatOf board) board (s .items)))
 
   pub at-stamp : part (c .item .time) timeSize board ≡ itemAfter board (s .items) .stamp
-  at-stamp = rw (next-item at-next) (stamp-is board (placeOf base board (s .items)))
+  at-stamp = rw (next-item at-next) (stamp-is board (placeOf (formatOf board) board (s .items)))
 
   pub at-time : pair (part (c .item .time) timeSize board) ≡ time (itemAfter board (s .items))
-  at-time = rw (next-item at-next) (time-is board (placeOf base board (s .items)))
+  at-time = rw (next-item at-next) (time-is board (placeOf (formatOf board) board (s .items)))
 
-  pub at-signature-words : part (c .item .signature) (base .signature) board ≡ itemAfter board (s .items) .signature
-  at-signature-words = rw (next-item at-next) (signature-is board (placeOf base board (s .items)))
+  pub at-signature-words : part (c .item .signature) (formatOf board .signature) board ≡ itemAfter board (s .items) .signature
+  at-signature-words = rw (next-item at-next) (signature-is board (placeOf (formatOf board) board (s .items)))
 
-  pub at-address-words : part (c .item .address) (base .address) board ≡ itemAfter board (s .items) .address
-  at-address-words = rw (next-item at-next) (address-is board (placeOf base board (s .items)))
+  pub at-address-words : part (c .item .address) (formatOf board .address) board ≡ itemAfter board (s .items) .address
+  at-address-words = rw (next-item at-next) (address-is board (placeOf (formatOf board) board (s .items)))
 
-  pub at-hashed : part (c .item .place) (hashedLength base (c .item .head .count)) board ≡ hashed (itemAfter board (s .items))
+  pub at-hashed : part (c .item .place) (hashedLength (formatOf board) (c .item .head .count)) board ≡ hashed (itemAfter board (s .items))
   unfolding itemOf
-  at-hashed = rw (next-item at-next) (hashed-is board (placeOf base board (s .items)) (rw (next-item at-next) at (a .within)))
+  at-hashed = rw (next-item at-next) (hashed-is board (placeOf (formatOf board) board (s .items)) (rw (next-item at-next) at (a .within)))
 
   -- content word k, where there is one
   pub at-word : (k : ℕ) → k < c .item .head .count
@@ -121,7 +121,7 @@ module _ {board index : List ℕ} {s : State} {c : Known} (a : AtItem board inde
   at-word k l = next-word at-next k (rw at-count at l)
 
   -- its type is listed, and it has as many content words as that allows
-  pub at-listed : Listed base (itemAfter board (s .items) .head)
+  pub at-listed : Listed (formatOf board) (itemAfter board (s .items) .head)
   unfolding itemAt
   at-listed = rw (a .stands .place) at (a .listed)
 
@@ -130,25 +130,25 @@ module _ {board index : List ℕ} {s : State} {c : Known} (a : AtItem board inde
   unfolding itemAt
   at-words t low high b q =
       rw (at-count, ← a .stands .place)
-      (words-law t low high (countOf (getD board (s .place) 0)) b (a .listed) (rw (a .stands .place) (sym at-code ∙ q)) (a .counted))
+      (words-law board t low high (countOf (getD board (s .place) 0)) b (a .listed) (rw (a .stands .place) (sym at-code ∙ q)) (a .counted))
 
   -- ---- the items before it
 
   -- an item of the history has a parent and a session that are in it
-  pub at-fine : (k : ℕ) → 1 ≤ k → k ≤ s .items → Fine base (before board (s .items)) (entry (before board (s .items)) k)
-  at-fine k l m = fine-at (orderly (a .kept .passed)) k l (omega (arith, length-history base board (s .items)))
+  pub at-fine : (k : ℕ) → 1 ≤ k → k ≤ s .items → Fine (formatOf board) (before board (s .items)) (entry (before board (s .items)) k)
+  at-fine k l m = fine-at (orderly (a .kept .passed)) k l (omega (arith, length-history (formatOf board) board (s .items)))
 
   -- the parent is one of them, or none; genesis has its own number
   pub parent-in-range : c .item .head .code ≢ genesisType → c .parent ≤ s .items
   parent-in-range q =
       let later = ne-eqb (code (itemAfter board (s .items))) genesisType (rw at-code at q) in
-      rw at-parent (omega (arith, parent-bound h (itemAfter board (s .items)) later, length-history base board (s .items)))
+      rw at-parent (omega (arith, parent-bound h (itemAfter board (s .items)) later, length-history (formatOf board) board (s .items)))
 
   -- a session has its own number
   pub own-session : c .item .head .code ≡ sessionType → c .session ≡ s .items + 1
   own-session q =
       let i = itemAfter board (s .items) in
-      let size = length-history base board (s .items) in
+      let size = length-history (formatOf board) board (s .items) in
       let is : code i ≡ sessionType = sym at-code ∙ q in
       rw at-session (omega (arith, session-own h i (ne-eqb (code i) genesisType (λ e. omega arith)) (eq-eqb (code i) sessionType is)))
 
@@ -164,7 +164,7 @@ module _ {board index : List ℕ} {s : State} {c : Known} (a : AtItem board inde
   session-of zero l = no-session
   session-of (suc k) l =
       let fine = at-fine (suc k) (omega arith) l in
-      (omega (arith, fine .session-in, length-history base board (s .items)), fine .session-typed)
+      (omega (arith, fine .session-in, length-history (formatOf board) board (s .items)), fine .session-typed)
 
   -- any other item has that of an earlier session, or none
   earlier-session : c .item .head .code ≢ sessionType → Session (c .session)
@@ -174,7 +174,7 @@ module _ {board index : List ℕ} {s : State} {c : Known} (a : AtItem board inde
       rw at-session
       (by-test (eqb (code i) genesisType)
       (λ g. rw (session-genesis h i g) no-session)
-      (λ g. rw (session-up h i g none) (session-of (parentNumber h i) (omega (arith, parent-bound h i g, length-history base board (s .items))))))
+      (λ g. rw (session-up h i g none) (session-of (parentNumber h i) (omega (arith, parent-bound h i g, length-history (formatOf board) board (s .items))))))
 
   pub session-in-range : c .item .head .code ≢ sessionType → c .session ≤ s .items
   session-in-range q = earlier-session q .0
@@ -202,42 +202,42 @@ module _ (board : List ℕ) where
   lastMain-entry zero = refl
   lastMain-entry (suc n) =
       let h = before board n in
-      let e = entryOf h (placeOf base board n) (itemAfter board n) in
+      let e = entryOf h (placeOf (formatOf board) board n) (itemAfter board n) in
       by-test (main e)
       (λ q. rw (lastMain-snoc h e, last-snoc main h e, q) (ap (λ (x : Entry). x .item) (sym (entry-snoc h e))))
       (λ q. rw (lastMain-snoc h e, last-snoc main h e, q)
       (lastMain-entry n ∙ ap (λ (x : Entry). x .item) (sym (entry-append h (e ∷ []) (last main h) (last-bound main h)))))
 
-  end-empty : endAddress base [] ≡ replicate (base .address) 0
+  end-empty : endAddress (formatOf board) [] ≡ replicate (formatOf board .address) 0
   unfolding endAddress endAfter keep
   end-empty = refl
 
   endAddress-entry : (n : ℕ)
-      → endAddress base (before board n)
-      ≡ (if eqb (last main (before board n)) 0 then replicate (base .address) 0 else itemNo (before board n) (last main (before board n)) .address)
+      → endAddress (formatOf board) (before board n)
+      ≡ (if eqb (last main (before board n)) 0 then replicate (formatOf board .address) 0 else itemNo (before board n) (last main (before board n)) .address)
   unfolding history lastFrom if_then_else_
   endAddress-entry zero = end-empty
   endAddress-entry (suc n) =
       let h = before board n in
-      let e = entryOf h (placeOf base board n) (itemAfter board n) in
+      let e = entryOf h (placeOf (formatOf board) board n) (itemAfter board n) in
       by-test (main e)
-      (λ q. rw (endAddress-snoc h e base, last-snoc main h e, q, eqb·suc-zero (length h))
+      (λ q. rw (endAddress-snoc h e (formatOf board), last-snoc main h e, q, eqb·suc-zero (length h))
       (ap (λ (x : Entry). x .item .address) (sym (entry-snoc h e))))
-      (λ q. rw (endAddress-snoc h e base, last-snoc main h e, q) (endAddress-entry n
-      ∙ ap (λ (x : Entry). if eqb (last main h) 0 then replicate (base .address) 0 else x .item .address)
+      (λ q. rw (endAddress-snoc h e (formatOf board), last-snoc main h e, q) (endAddress-entry n
+      ∙ ap (λ (x : Entry). if eqb (last main h) 0 then replicate (formatOf board .address) 0 else x .item .address)
       (sym (entry-append h (e ∷ []) (last main h) (last-bound main h)))))
 
 module _ {board : List ℕ} {s : State} (a : Stands board s) where
   pub last-in-range : s .last ≤ s .items
-  last-in-range = rw (a .last) (omega (arith, last-bound main (before board (s .items)), length-history base board (s .items)))
+  last-in-range = rw (a .last) (omega (arith, last-bound main (before board (s .items)), length-history (formatOf board) board (s .items)))
 
   pub last-item : lastMain (before board (s .items)) ≡ itemNo (before board (s .items)) (s .last)
   last-item = rw (a .last) (lastMain-entry board (s .items))
 
-  pub end-none : s .last ≡ 0 → endAddress base (before board (s .items)) ≡ replicate (base .address) 0
+  pub end-none : s .last ≡ 0 → endAddress (formatOf board) (before board (s .items)) ≡ replicate (formatOf board .address) 0
   unfolding if_then_else_
   end-none q = endAddress-entry board (s .items) ∙ rw (eq-eqb _ _ (sym (a .last) ∙ q))
 
-  pub end-last : s .last ≢ 0 → endAddress base (before board (s .items)) ≡ itemNo (before board (s .items)) (s .last) .address
+  pub end-last : s .last ≢ 0 → endAddress (formatOf board) (before board (s .items)) ≡ itemNo (before board (s .items)) (s .last) .address
   unfolding if_then_else_
   end-last q = endAddress-entry board (s .items) ∙ rw (← a .last, ne-eqb _ _ q)

@@ -13,7 +13,8 @@ use Rattle.model.specs.Phase.{roundNumber}
 use Rattle.model.specs.Content.{contestOk, roundOk}
 use Rattle.model.proofs.Tests.{facts}
 use Rattle.model.proofs.Rules.{content-rules}
-use Rattle.format.specs.Base.{base}
+use Rattle.format.specs.Format.{formatOf}
+use Rattle.format.proofs.Traits.{sets-few}
 use Rattle.format.specs.Layout.{itemOf}
 use Rattle.format.specs.declared.item.Item.{Item}
 use Rattle.format.proofs.Places.{end-is, word-is}
@@ -26,11 +27,11 @@ use Rattle.index.proofs.Counts.{hasWords, words-law}
 
 -- c is what is known of it, and it lies within the board
 pub record Next (board : List ℕ) (n : ℕ) (c : Known) : Type 0 where
-  pub known : c ≡ knownOf board (entryOf (before board n) (placeOf base board n) (itemAfter board n))
-  pub within : placeOf base board (suc n) ≤ length board
+  pub known : c ≡ knownOf board (entryOf (before board n) (placeOf (formatOf board) board n) (itemAfter board n))
+  pub within : placeOf (formatOf board) board (suc n) ≤ length board
 
 module _ {board : List ℕ} {n : ℕ} {c : Known} (a : Next board n c) where
-  pub next-item : c .item ≡ itemOf board (placeOf base board n)
+  pub next-item : c .item ≡ itemOf board (placeOf (formatOf board) board n)
   unfolding entryOf
   next-item = ap (λ (k : Known). k .item) (a .known)
 
@@ -50,15 +51,15 @@ module _ {board : List ℕ} {n : ℕ} {c : Known} (a : Next board n c) where
   unfolding itemOf itemAt
   next-code = ap (λ (i : Item). i .head .code) next-item
 
-  pub next-end : c .item .end ≡ placeOf base board (suc n)
+  pub next-end : c .item .end ≡ placeOf (formatOf board) board (suc n)
   unfolding placeOf
-  next-end = ap (λ (i : Item). i .end) next-item ∙ end-is board (placeOf base board n)
+  next-end = ap (λ (i : Item). i .end) next-item ∙ end-is board (placeOf (formatOf board) board n)
 
   -- content word k, where there is one
   pub next-word : (k : ℕ) → k < countOf (itemAfter board n .head)
       → (c .item .content + k < length board) × (getD board (c .item .content + k) 0 ≡ word k (itemAfter board n))
   unfolding itemOf itemAt itemLength placeOf
-  next-word k l = let inside = a .within in rw next-item (omega arith, sym (word-is board (placeOf base board n) k l))
+  next-word k l = let inside = a .within in rw next-item (omega arith, sym (word-is board (placeOf (formatOf board) board n) k l))
 
 -- ---- the item that passes
 
@@ -74,17 +75,17 @@ module _ {board index : List ℕ} {n : ℕ} {c : Known} (p : Passing board index
       → (c .item .content < length board) × (getD board (c .item .content) 0 ≡ word 0 (itemAfter board n))
   first-word t high some q =
       let add : c .item .content + 0 ≡ c .item .content = omega arith in
-      rw add at (next-word (passing-next p) 0 (words-law t 1 high _ some (p .meets .listed) (typed t q) (p .meets .counted) .0))
+      rw add at (next-word (passing-next p) 0 (words-law board t 1 high _ some (p .meets .listed) (typed t q) (p .meets .counted) .0))
 
-  -- a contest has a number that a set can hold
+  -- a contest has a number that the widest set can hold
   pub contest-number : c .item .head .code ≡ contestType
       → (c .item .content < length board) × (getD board (c .item .content) 0 ≡ word 0 (itemAfter board n))
-      × (getD board (c .item .content) 0 < 32)
+      × (getD board (c .item .content) 0 < 256)
   unfolding hasWords contestOk
   contest-number q =
       let (inside, same) = first-word contestType 65 tt q in
       let small = simp facts at (content-rules (p .meets .content) .contest) (typed contestType q) in
-      (inside, same, omega arith)
+      (inside, same, omega (arith, sets-few board))
 
   -- a round has a number that the state has a place for
   pub round-number : c .item .head .code ≡ roundType
@@ -92,6 +93,6 @@ module _ {board index : List ℕ} {n : ℕ} {c : Known} (p : Passing board index
       × (getD board (c .item .content) 0 < 16)
   unfolding hasWords roundOk
   round-number q =
-      let (inside, same) = first-word roundType 6 tt q in
+      let (inside, same) = first-word roundType 13 tt q in
       let small = simp facts at (content-rules (p .meets .content) .round) (typed roundType q) .0 .0 in
       (inside, same, omega arith)

@@ -1,6 +1,6 @@
 -- The rounds in force by their numbers: a later type 6 with the same number replaces the earlier, so of each number 0..15 at most one round
 -- stands, and the code keeps sixteen item numbers in place of the list. Paper: "Phases". Assumes nothing.
-use Prim.Native.Nat.{ℕ, zero, suc, _+_, _^_, _≤_, _<_}
+use Prim.Native.Nat.{ℕ, zero, suc, _+_, _-_, _/_, _%_, _^_, _≤_, _<_}
 use native.Mathlib.Nat.{not-suc-le-zero, le-refl}
 use native.Mathlib.Numerals.{add-one}
 use native.Mathlib.Omega.{arith}
@@ -13,7 +13,7 @@ use lib.Seq.{getD-take, getD-drop}
 use lib.Dec.{T, eqb, ltb, eqb→eq}
 use borrow.Author.Tests.{eqb-true, eqb-false, ltb-true, ltb-false, eq-eqb, ne-eqb}
 use Rattle.model.specs.Lists.{if_then_else_, part, any, keep, latest}
-use Rattle.model.specs.Words.{countOf, member}
+use Rattle.model.specs.Words.{countOf, setBits, bit, inWords}
 use Rattle.model.specs.Codes.{roundType}
 use Rattle.model.specs.Format.{Format}
 use Rattle.model.specs.Item.{Item, itemAt, contentAt, code, word}
@@ -27,10 +27,11 @@ use Rattle.model.proofs.Lists.{Every, every-snoc}
 use Rattle.model.proofs.Numbers.{lastEntry, entry-last}
 use Rattle.model.proofs.State.{last-snoc, any-last}
 use Rattle.model.proofs.Rules.{content-rules}
-use Rattle.state.specs.Standing.{anyBelow, unionBelow, numbered, roundAt, slots, openContests, enabledSet}
-use Rattle.state.proofs.Sets.{member-zero, member-or}
+use Rattle.model.proofs.Sets.{bit-zero}
+use Rattle.sets.proofs.Bits.{bit-or}
+use Rattle.state.specs.Standing.{anyBelow, unionBelow, numbered, roundAt, slots, openWord, enabledWord}
 
--- ---- whether any number below n passes a test, and the union of the sets of the numbers below n: a loop from 0 up
+-- ---- whether any number below n passes a test, and the union of the words of the numbers below n: a loop from 0 up
 
 pub anyBelow-ext : (n : ℕ) (p q : ℕ → Bool) → ((j : ℕ) → j < n → p j ≡ q j) → anyBelow n p ≡ anyBelow n q
 unfolding anyBelow
@@ -77,16 +78,11 @@ module _ (f : ℕ → ℕ) where
   unfolding unionBelow
   unionBelow-next k = rw add-one
 
-  pub unionBelow-small : (n : ℕ) → ((k : ℕ) → f k < 2 ^ 32) → unionBelow n f < 2 ^ 32
-  unfolding unionBelow
-  unionBelow-small zero l = omega arith
-  unionBelow-small (suc n) l = or-lt 32 (unionBelow n f) (f n) (unionBelow-small n l) (l n)
-
-  pub member-union : (n j : ℕ) → member (unionBelow n f) j ≡ anyBelow n (λ k. member (f k) j)
+  pub bit-union : (n j : ℕ) → bit (unionBelow n f) j ≡ anyBelow n (λ k. bit (f k) j)
   unfolding unionBelow anyBelow
-  member-union zero j = member-zero j
-  member-union (suc n) j =
-      rw (member-or (unionBelow n f) (f n) j, member-union n j) (by-test (member (f n) j) (λ q. rw (q, or-true)) (λ q. rw (q, or-false)))
+  bit-union zero j = bit-zero j
+  bit-union (suc n) j =
+      rw (bit-or (unionBelow n f) (f n) j, bit-union n j) (by-test (bit (f n) j) (λ q. rw (q, or-true)) (λ q. rw (q, or-false)))
 
 -- ---- the last entry that passes a test
 
@@ -204,58 +200,24 @@ module _ (p : Item → Bool) where
       (λ j l. rw (← any-last (numbered j) h)
       (passes-last (numbered j) p absent h ∙ ap (λ (e : Entry). any (numbered j) h && p (e .item)) (sym (entry-last (numbered j) h))))
 
--- ---- content words are words of 32 bits
-
-abbrev pub WordsSmall : Entry → Type 0
-WordsSmall e = (k : ℕ) → word k (e .item) < 2 ^ 32
-
--- item number k, and all items of a run of words
-pub entry-words : (h : History) → Every WordsSmall h → (k : ℕ) → WordsSmall (entry h k)
-unfolding entry
-entry-words h words zero c = omega arith
-entry-words [] words (suc k) c = omega arith
-entry-words (e ∷ es) words (suc zero) c = words .0 c
-entry-words (e ∷ es) words (suc (suc k)) c = entry-words es (words .1) (suc k) c
-
-part-words : (ws : List ℕ) → ((k : ℕ) → getD ws k 0 < 2 ^ 32) → (p n k : ℕ) → getD (part p n ws) k 0 < 2 ^ 32
-unfolding part
-part-words ws small p n k =
-    by-test (ltb k n)
-    (λ q. rw (getD-take n (drop p ws) k 0 (ltb-true k n q), getD-drop p ws k 0) (small (p + k)))
-    (λ q. let past : length (take n (drop p ws)) ≤ k = simp length-take (omega (arith, ltb-false k n q)) in
-    rw (List·getD-eq-default (take n (drop p ws)) 0 past) (omega arith))
-
-pub history-words : (f : Format) (ws : List ℕ) → ((k : ℕ) → getD ws k 0 < 2 ^ 32) → (n : ℕ) → Every WordsSmall (history f ws n)
-unfolding history entryOf itemAt
-history-words f ws small zero = tt
-history-words f ws small (suc n) =
-    let p = placeOf f ws n in
-    every-snoc WordsSmall (history f ws n) (entryOf (history f ws n) p (itemAt f ws p)) (history-words f ws small n)
-    (λ k. part-words ws small (contentAt p) (countOf (getD ws p 0)) k)
-
 -- ---- the contests that the open rounds enable
 
-member-if : (a b : Bool) (w j : ℕ) → member (if a && b then w else 0) j ≡ (a && (b && member w j))
+bit-if : (a b : Bool) (w j : ℕ) → bit (if a && b then w else 0) j ≡ (a && (b && bit w j))
 unfolding if_then_else_
-member-if true true w j = refl
-member-if true false w j = member-zero j
-member-if false b w j = member-zero j
+bit-if true true w j = refl
+bit-if true false w j = bit-zero j
+bit-if false b w j = bit-zero j
 
-pub member-enabled : (t j : ℕ) (h : History) → Every RoundSmall h → member (enabledSet t h) j ≡ any (enables t j) (rounds h)
-unfolding enabledSet openContests
-member-enabled t j h small =
-    member-union (openContests t h) slots j
-    ∙ anyBelow-ext slots (λ k. member (openContests t h k) j) (λ k. not (eqb (roundAt h k) 0) && enables t j (itemNo h (roundAt h k)))
-    (λ k l. let r = itemNo h (roundAt h k) in member-if (not (eqb (roundAt h k) 0)) (isOpen t r) (roundContests r) j)
-    ∙ sym (any-rounds (enables t j) h small)
-
-pub enabledSet-small : (t : ℕ) (h : History) → Every WordsSmall h → enabledSet t h < 2 ^ 32
-unfolding enabledSet openContests
-enabledSet-small t h words =
-    unionBelow-small (openContests t h) slots (λ j.
-    let r = itemNo h (roundAt h j) in
-    by-if (λ (w : ℕ). w < 2 ^ 32) (not (eqb (roundAt h j) 0) && isOpen t r) (roundContests r) 0
-    (λ b. entry-words h words (roundAt h j) 1) (λ b. omega arith))
+module _ (t : ℕ) (h : History) where
+  pub member-enabled : (j : ℕ) → Every RoundSmall h → inWords (enabledWord t h) j ≡ any (enables t j) (rounds h)
+  unfolding enabledWord openWord inWords
+  member-enabled j small =
+      let k = j / setBits in
+      let l = j % setBits in
+      bit-union (openWord t h k) slots l
+      ∙ anyBelow-ext slots (λ n. bit (openWord t h k n) l) (λ n. not (eqb (roundAt h n) 0) && enables t j (itemNo h (roundAt h n)))
+      (λ n m. let r = itemNo h (roundAt h n) in bit-if (not (eqb (roundAt h n) 0)) (isOpen t r) (getD (roundContests r) k 0) l)
+      ∙ sym (any-rounds (enables t j) h small)
 
 -- ---- a passed history
 

@@ -1,5 +1,5 @@
 -- The state with one more item stands for the history with it. Assumes nothing.
-use Prim.Native.Nat.{ℕ, suc, _+_, _*_, _%_, _^_, _≤_, _<_}
+use Prim.Native.Nat.{ℕ, suc, _+_, _/_, _%_, _^_, _≤_, _<_}
 use native.Mathlib.Omega.{arith}
 use native.Mathlib.Numerals.{add-one}
 use mathlib.Core.Path.{_≡_, sym, _∙_}
@@ -11,7 +11,7 @@ use lib.Seq.{getD-set-same, getD-set-other}
 use lib.Dec.{eqb}
 use borrow.Author.Tests.{eq-eqb, ne-eqb, eqb-true, eqb-false}
 use Rattle.model.specs.Lists.{if_then_else_, count, keep, latest}
-use Rattle.model.specs.Words.{between, mainKind}
+use Rattle.model.specs.Words.{between, mainKind, setBits}
 use Rattle.model.specs.Codes.{contestType, thresholdType, authorizerType, roundType, intentType}
 use Rattle.model.specs.Item.{code}
 use Rattle.model.specs.History.{Entry, firstFrom, last, lastFrom, main, typed, config, placeOf, history, entryOf}
@@ -20,17 +20,16 @@ use Rattle.model.proofs.Tests.{by-test}
 use Rattle.model.proofs.Lists.{count-few}
 use Rattle.model.proofs.State.{count-snoc, first-snoc, last-snoc}
 use Rattle.model.proofs.Unchecked.{length-history}
-use Rattle.format.specs.Base.{base}
+use Rattle.format.specs.Format.{formatOf}
 use Rattle.index.specs.Kept.{before, itemAfter}
 use Rattle.index.specs.Known.{Passing}
 use Rattle.index.specs.declared.Known.{Known}
-use Rattle.state.specs.Standing.{definedSet, definedFrom}
+use Rattle.state.specs.Standing.{definedWord, definedFrom}
 use Rattle.state.specs.declared.State.{State}
 use Rattle.state.specs.After.{later, earliest, contestsAfter, slotAfter}
 use Rattle.state.specs.Stands.{Stands}
-use Rattle.state.proofs.Sets.{one-shl}
 use Rattle.state.proofs.Rounds.{roundAt-snoc}
-use Rattle.state.proofs.Defined.{definedSet-snoc}
+use Rattle.state.proofs.Defined.{definedWord-snoc}
 use Rattle.state.proofs.Next.{Next, next-kind, next-code, next-end, passing-next, contest-number, round-number}
 
 -- ---- before the first item
@@ -45,12 +44,12 @@ pub record Empty (r : State) : Type 0 where
   pub threshold : r .threshold ≡ 0
   pub authorizer : r .authorizer ≡ 0
   pub intent : r .intent ≡ 0
-  pub contests : r .contests ≡ 0
+  pub contests : (k : ℕ) → k < 8 → getD (r .contests) k 0 ≡ 0
   pub rounds : (j : ℕ) → j < 16 → getD (r .rounds) j 0 ≡ 0
   pub ballots : r .ballots ≡ 0
 
 pub stands-new : {r : State} → Empty r → (board : List ℕ) → Stands board r
-unfolding history placeOf count firstFrom lastFrom definedSet definedFrom counted keep latest
+unfolding history placeOf count firstFrom lastFrom definedWord definedFrom counted keep latest
 stands-new a board = record {
   place = rw (a .items) (a .place);
   mains = rw (a .items) (a .mains);
@@ -59,7 +58,7 @@ stands-new a board = record {
   threshold = rw (a .items) (a .threshold);
   authorizer = rw (a .items) (a .authorizer);
   intent = rw (a .items) (a .intent);
-  contests = rw (a .items) (a .contests);
+  contests = λ k l. rw (a .items) (a .contests k l);
   rounds = λ j l. rw (a .items) (a .rounds j l);
   ballots = rw (a .items) (a .ballots);
 }
@@ -76,13 +75,13 @@ pub record Stepped (board : List ℕ) (s : State) (c : Known) (r : State) : Type
   pub threshold : r .threshold ≡ earliest (eqb (c .item .head .code) thresholdType) (s .items + 1) (s .threshold)
   pub authorizer : r .authorizer ≡ later (eqb (c .item .head .code) authorizerType) (s .items + 1) (s .authorizer)
   pub intent : r .intent ≡ earliest (eqb (c .item .head .code) intentType) (s .items + 1) (s .intent)
-  pub contests : r .contests ≡ contestsAfter (s .contests) (itemAfter board (s .items))
+  pub contests : (k : ℕ) → k < 8 → getD (r .contests) k 0 ≡ contestsAfter k (getD (s .contests) k 0) (itemAfter board (s .items))
   pub rounds : (j : ℕ) → j < 16 → getD (r .rounds) j 0 ≡ slotAfter (getD (s .rounds) j 0) (s .items) j (itemAfter board (s .items))
   pub ballots : r .ballots ≡ length (counted (before board (s .items + 1)))
 
 module _ (board : List ℕ) (n : ℕ) where
   next : Entry
-  next = entryOf (before board n) (placeOf base board n) (itemAfter board n)
+  next = entryOf (before board n) (placeOf (formatOf board) board n) (itemAfter board n)
 
   grows : before board (n + 1) ≡ before board n ++ (next ∷ [])
   unfolding history next
@@ -90,21 +89,21 @@ module _ (board : List ℕ) (n : ℕ) where
 
 -- no more main items than items
 pub mains-few : (board : List ℕ) (s : State) → Stands board s → s .mains ≤ s .items
-mains-few board s stands = omega (arith, stands .mains, count-few main (before board (s .items)), length-history base board (s .items))
+mains-few board s stands = omega (arith, stands .mains, count-few main (before board (s .items)), length-history (formatOf board) board (s .items))
 
 -- ---- the contests and the rounds
 
 module _ {board index : List ℕ} {n : ℕ} {c : Known} (p : Passing board index n c) where
-  pub contests-new : (old : ℕ) → c .item .head .code ≡ contestType
-      → bitOr old ((1 * 2 ^ getD board (c .item .content) 0) % 2 ^ 32) ≡ contestsAfter old (itemAfter board n)
+  pub contests-new : (k old : ℕ) → c .item .head .code ≡ contestType
+      → let j = getD board (c .item .content) 0 in (if eqb (j / setBits) k then bitOr old (2 ^ (j % setBits)) else old) ≡ contestsAfter k old (itemAfter board n)
   unfolding contestsAfter if_then_else_
-  contests-new old q =
+  contests-new k old q =
       let (inside, same, small) = contest-number p q in
-      rw (one-shl (getD board (c .item .content) 0) small, same, ← next-code (passing-next p), eq-eqb _ _ q)
+      rw (same, ← next-code (passing-next p), eq-eqb _ _ q)
 
-  pub contests-old : (old : ℕ) → (c .item .head .code ≡ contestType → ⊥) → old ≡ contestsAfter old (itemAfter board n)
+  pub contests-old : (k old : ℕ) → (c .item .head .code ≡ contestType → ⊥) → old ≡ contestsAfter k old (itemAfter board n)
   unfolding contestsAfter if_then_else_
-  contests-old old q = rw (← next-code (passing-next p), ne-eqb _ _ q)
+  contests-old k old q = rw (← next-code (passing-next p), ne-eqb _ _ q)
 
   pub slot-new : (old : List ℕ) (k : ℕ) → c .item .head .code ≡ roundType → length old ≡ 16 → k ≡ getD board (c .item .content) 0
       → (j : ℕ) → j < 16 → getD (set old k (n + 1)) j 0 ≡ slotAfter (getD old j 0) n j (itemAfter board n)
@@ -131,7 +130,7 @@ module _ {board : List ℕ} {s r : State} {c : Known}
   stands-after =
       let h = before board (s .items) in
       let n = s .items in
-      let size : suc (length h) ≡ n + 1 = rw (length-history base board n, add-one) in
+      let size : suc (length h) ≡ n + 1 = rw (length-history (formatOf board) board n, add-one) in
       record {
         place = b .place ∙ next-end a ∙ rw (b .items, add-one);
         mains = b .mains ∙ rw (b .items, grows board n, count-snoc main h (next board n), next-kind a, stands .mains, add-one);
@@ -143,7 +142,7 @@ module _ {board : List ℕ} {s r : State} {c : Known}
             ∙ rw (b .items, grows board n, last-snoc (typed authorizerType) h (next board n), next-code a, stands .authorizer, size);
         intent = b .intent
             ∙ rw (b .items, grows board n, first-snoc (typed intentType) h (next board n), next-code a, stands .intent, size);
-        contests = b .contests ∙ rw (b .items, grows board n, definedSet-snoc h (next board n), stands .contests);
+        contests = λ k l. b .contests k l ∙ rw (b .items, grows board n, definedWord-snoc h (next board n) k, stands .contests k l);
         rounds = λ j l. b .rounds j l ∙ rw (b .items, grows board n, roundAt-snoc h (next board n) j, stands .rounds j l, size, add-one);
         ballots = b .ballots ∙ rw (b .items);
       }

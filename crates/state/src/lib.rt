@@ -9,6 +9,7 @@ ghost use Rattle.index.specs.Kept.{before, itemAfter};
 ghost use Rattle.index.specs.Known.{Passing};
 ghost use Rattle.state.specs.After.{later, earliest, contestsAfter, slotAfter};
 ghost use Rattle.state.specs.Stands.{Stands};
+use format::format::Format;
 use format::head::Head;
 use format::phase::Phase;
 use index::Known;
@@ -25,8 +26,8 @@ pub struct State {
     pub threshold: usize,
     pub authorizer: usize,
     pub intent: usize,
-    // The contests that are defined, as a set, and the round in force under each number.
-    pub contests: u32,
+    // The contests that are defined, as a set of the widest kind, and the round in force under each number.
+    pub contests: [u32; 8],
     pub rounds: [u32; 16],
     // The counted ballots.
     pub ballots: usize,
@@ -49,7 +50,7 @@ impl State {
             threshold: 0,
             authorizer: 0,
             intent: 0,
-            contests: 0,
+            contests: [0; Format::WIDE],
             rounds: [0; State::ROUNDS],
             ballots: 0,
         }
@@ -65,9 +66,10 @@ impl State {
         let n = self.items + 1;
         let kind = c.item.head.kind;
         let code = c.item.head.code;
-        let contests = contests_after(self.contests, board, index, self.items, c);
-        let old = self.rounds;
-        let rounds = rounds_after(old, board, index, self.items, c);
+        let defined = self.contests;
+        let contests = contests_after(defined, board, index, self.items, c);
+        let slots = self.rounds;
+        let rounds = rounds_after(slots, board, index, self.items, c);
         Self {
             place: c.item.end,
             items: n,
@@ -112,13 +114,19 @@ fn is_config(code: u32) -> bool
 }
 
 // The defined contests with the next item: a type 3 defines one.
-fn contests_after(contests: u32, board: &[u32], index: &[u32], items: usize, c: Known) -> u32
+fn contests_after(
+    contests: [u32; 8],
+    board: &[u32],
+    index: &[u32],
+    items: usize,
+    c: Known,
+) -> [u32; 8]
     requires { ⌜ Passing (now board) (now index) items c ⌝ }
-    ensures { λ r. ⌜ r ≡ contestsAfter contests (itemAfter (now (board .entry)) items) ⌝ }
+    ensures { λ r. ⌜ ((k : ℕ) → k < 8 → getD r k 0 ≡ contestsAfter k (getD contests k 0) (itemAfter (now (board .entry)) items)) ⌝ }
 {
     if c.item.head.code == Head::CONTEST {
         let at = c.item.content;
-        return contests | (1 << board[at]);
+        return sets::with(contests, board[at]);
     }
     contests
 }

@@ -8,7 +8,7 @@ use Rattle.model.specs.History.{mainNumber}
 use Rattle.model.proofs.Unchecked.{length-history}
 use Rattle.refusal.specs.declared.Refusal.{Refusal}
 use Rattle.refusal.specs.declared.Finding.the-variants as finding
-use Rattle.format.specs.Base.{base}
+use Rattle.format.specs.Format.{formatOf}
 use Rattle.index.specs.Kept.{before, Kept}
 use Rattle.index.specs.Known.{Passing}
 use Rattle.index.specs.declared.Known.{Known}
@@ -25,7 +25,7 @@ use Rattle.step.specs.Steps.{Reached, Stepped}
 -- the main items before the next one are all of them
 pub mains-before : {board : List ℕ} {s : State} → Stands board s → s .mains ≡ mainNumber (before board (s .items)) (s .items)
 mains-before {board} {s} stands =
-    rw (take-all (s .items) (before board (s .items)) (omega (arith, length-history base board (s .items)))) (stands .mains)
+    rw (take-all (s .items) (before board (s .items)) (omega (arith, length-history (formatOf board) board (s .items)))) (stands .mains)
 
 -- the tables and the state with one item more
 pub reached-next : {board index ballots parents sessions : List ℕ} (s : State) {r : State} → r .items ≡ s .items + 1

@@ -23,7 +23,7 @@ use Rattle.model.proofs.Entries.{orderly, fine-parent, parent-some, parent-main
 use Rattle.model.proofs.Growth.{counted-other, counted-cast}
 use Rattle.model.proofs.Unchecked.{length-history}
 use Rattle.model.proofs.Bound.{few-ballots}
-use Rattle.format.specs.Base.{base}
+use Rattle.format.specs.Format.{formatOf}
 use Rattle.index.specs.declared.Known.{Known}
 use Rattle.index.specs.Kept.{before, itemAfter, Kept}
 use Rattle.index.specs.Known.{IsKnown, Passing}
@@ -51,13 +51,13 @@ number-is h (suc k) s l t = let same : suc k - 1 ≡ k = omega arith in rw same 
 pub number-small : {board index : List ℕ} {n : ℕ} → Kept board index n → (k : ℕ) → mainNumber (before board n) k ≤ itemLimit
 number-small {board} {index} {n} kept k =
     let h = before board n in
-    omega (arith, count-take main h k, count-few main h, length-history base board n, kept .few)
+    omega (arith, count-take main h k, count-few main h, length-history (formatOf board) board n, kept .few)
 
 -- ---- one more item
 
 module _ {board index : List ℕ} {n : ℕ} {c : Known} (p : Passing board index n c) where
   abbrev new : Entry
-  new = entryOf (before board n) (length (take (placeOf base board n) board)) (itemAfter board n)
+  new = entryOf (before board n) (length (take (placeOf (formatOf board) board n) board)) (itemAfter board n)
 
   -- the vote of a cast
   pub vote : Vote
@@ -65,12 +65,12 @@ module _ {board index : List ℕ} {n : ℕ} {c : Known} (p : Passing board index
 
   longer : before board (n + 1) ≡ before board n ++ (new ∷ [])
   unfolding history
-  longer = rw (add-one n, length-take-le (placeOf base board n) board (p .kept .within))
+  longer = rw (add-one n, length-take-le (placeOf (formatOf board) board n) board (p .kept .within))
 
   -- with it there are still few counted ballots, since it passes
   next-fit : length (counted (before board (n + 1))) ≤ ballotLimit
   next-fit =
-      let few : length (before board (n + 1)) ≤ itemLimit = omega (arith, length-history base board (n + 1), p .more) in
+      let few : length (before board (n + 1)) ≤ itemLimit = omega (arith, length-history (formatOf board) board (n + 1), p .more) in
       rw longer (few-ballots (next _ _ _ _ _ (p .kept .passed) (p .meets)) (rw longer at few))
 
   pub counted-same : (c .item .head .code ≡ 20 → ⊥) → counted (before board (n + 1)) ≡ counted (before board n)
@@ -97,7 +97,7 @@ module _ {board index : List ℕ} {n : ℕ} {c : Known} (p : Passing board index
         let main-is : T (isMain i) = passes (main-code (p .meets .listed) ∙ le-leb (code i) 34 (omega (arith, is-cast))) in
         rw (next-parent (passing-next p)) (
           parent-some (p .meets),
-          omega (arith, parent-bound (before board n) i later, length-history base board n),
+          omega (arith, parent-bound (before board n) i later, length-history (formatOf board) board n),
           parent-main (p .meets) later main-is,
         )
 
@@ -111,7 +111,7 @@ module _ {board index : List ℕ} {n : ℕ} {c : Known} (p : Passing board index
         let o = orderly (p .kept .passed) in
         let a = fine-parent (p .meets) o later in
         let some = parent-session (p .meets) o (rw is-cast tt) later other in
-        rw (next-session (passing-next p), session-is) (some, omega (arith, a .session-in, length-history base board n), a .session-typed some)
+        rw (next-session (passing-next p), session-is) (some, omega (arith, a .session-in, length-history (formatOf board) board n), a .session-typed some)
 
     -- the words that its row is made of
     module _ (e : Known) (k : IsKnown board (entry (before board n) (c .session)) e) where
@@ -119,7 +119,7 @@ module _ {board index : List ℕ} {n : ℕ} {c : Known} (p : Passing board index
       unfolding hasWords
       session-words =
           let (s, l, t) = session-in in
-          rw (known-item k) (entry-words (p .kept) (c .session) s l 16 19 19 tt (eqb→eq _ _ t) .0)
+          rw (known-item k) (entry-words (p .kept) (c .session) s l 16 19 26 tt (eqb→eq _ _ t) .0)
 
       pub voter-is : getD board (e .item .content) 0 ≡ vote .voter
       unfolding vote voteOf entryOf

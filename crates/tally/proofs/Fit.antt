@@ -7,7 +7,7 @@ use Rattle.model.specs.Counted.{counted}
 use Rattle.model.specs.Audit.{ballotLimit, ballotRow}
 use Rattle.model.proofs.Bound.{few-ballots}
 use Rattle.model.proofs.Unchecked.{length-history}
-use Rattle.format.specs.Base.{base}
+use Rattle.format.specs.Format.{formatOf}
 use Rattle.index.specs.Kept.{before, Kept}
 use Rattle.state.specs.declared.State.{State}
 use Rattle.state.specs.Stands.{Stands}
@@ -20,7 +20,7 @@ holds-rows stands t = record { rows = t .rows; number = stands .ballots }
 
 -- those of the first n items, which pass
 counted-fit : {board index : List ℕ} {n : ℕ} → Kept board index n → length (counted (before board n)) ≤ ballotLimit
-counted-fit {board} {n = n} kept = few-ballots (kept .passed) (omega (arith, length-history base board n, kept .few))
+counted-fit {board} {n = n} kept = few-ballots (kept .passed) (omega (arith, length-history (formatOf board) board n, kept .few))
 
 module _ {board index : List ℕ} {s : State} (kept : Kept board index (s .items)) (stands : Stands board s) where
   pub rows-few : s .ballots ≤ ballotLimit

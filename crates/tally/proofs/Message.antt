@@ -25,7 +25,7 @@ use Rattle.model.proofs.Unchecked.{length-history}
 use Rattle.sha256.specs.declared.Hash.{Hash}
 use Rattle.sha256.specs.State.{fed, Holds}
 use Rattle.sha256.proofs.Holds.{holds-fed}
-use Rattle.format.specs.Base.{base}
+use Rattle.format.specs.Format.{formatOf}
 use Rattle.format.specs.Layout.{itemOf}
 use Rattle.format.specs.declared.item.Item.{Item}
 use Rattle.format.proofs.Places.{content-is}
@@ -160,7 +160,7 @@ module _ {board index ballots : List ℕ} {s : State} (kept : Kept board index (
 
     module _ (item : ℕ) (found : item ≡ mainEntry (before board (s .items)) (getD ballots (ballotRow * k) 0)) where
       pub item-in : (1 ≤ item) × (item ≤ s .items)
-      item-in = rw (found, number-is) (vote-found .some, omega (arith, vote-found .inside, length-history base board (s .items)))
+      item-in = rw (found, number-is) (vote-found .some, omega (arith, vote-found .inside, length-history (formatOf board) board (s .items)))
 
       -- the hash was fed one more content
       pub message-more : (e : Known) → IsKnown board (entry (before board (s .items)) item) e → (a b : Hash)

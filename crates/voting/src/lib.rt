@@ -1,19 +1,20 @@
 // Check 13 for voting: session, commitments, ballot. Paper: "Content", "Item types" (sets).
 ghost use mathlib.Core.Path.{_≡_};
-ghost use Prim.Native.Nat.{_+_, _≤_};
+ghost use Prim.Native.Nat.{_+_, _*_, _≤_};
 ghost use lib.ListN.{length};
 ghost use Rattle.model.specs.Lists.{part};
-ghost use Rattle.model.specs.Words.{setBits};
-ghost use Rattle.model.specs.Content.{cryptogramsOk, sessionOk, commitmentOk, ballotOk};
-ghost use Rattle.format.specs.Base.{base};
-ghost use Rattle.index.specs.Kept.{before, itemAfter};
+ghost use Rattle.model.specs.Words.{setBits, member, allIn};
+ghost use Rattle.model.specs.Codes.{ballotType};
+ghost use Rattle.model.specs.Content.{cryptogramsOk, sessionOk, commitmentOk, ballotContests, mayVote, ballotOk};
+ghost use Rattle.format.specs.Format.{formatOf};
+ghost use Rattle.index.specs.Kept.{before, itemAfter, ruleAfter};
 ghost use Rattle.state.specs.Stands.{AtItem};
-ghost use Rattle.voting.specs.Rules.{votingOk, mayVoteSet};
+ghost use Rattle.voting.specs.Rules.{votingOk, AtBallot, ownContests};
 use config::contests_ok;
 use fields::Content;
-use fields::earlier_word;
 use fields::range::Range;
 use fields::word;
+use format::format::Format;
 use format::head::Head;
 use format::item::Item;
 use format::size::Size;
@@ -23,7 +24,7 @@ use state::State;
 // The voters' part of check 13.
 pub fn voting_ok(board: &[u32], index: &[u32], s: State, c: Known) -> bool
     requires { ⌜ AtItem (now board) (now index) s c ⌝ }
-    ensures { λ r. ⌜ r ≡ votingOk base (before (now (board .entry)) (s .items)) (itemAfter (now (board .entry)) (s .items)) ⌝ }
+    ensures { λ r. ⌜ r ≡ ruleAfter votingOk (now (board .entry)) (s .items) ⌝ }
 {
     if !session_ok(board, index, s, c) {
         return false;
@@ -44,14 +45,14 @@ fn session_ok(board: &[u32], index: &[u32], s: State, c: Known) -> bool
     }
     let item = c.item;
     let weight = word(board, item, Content::WEIGHT);
-    let contests = word(board, item, Content::SESSION_CONTESTS);
-    1 <= weight && contests_ok(board, index, s, contests)
+    let at = item.content + Content::SESSION_CONTESTS;
+    1 <= weight && contests_ok(board, s, at, item.head.count - Size::SESSION)
 }
 
 // 17 and 18, commitments: the low 24 bits of the ninth word are zero.
 fn commitment_ok(board: &[u32], index: &[u32], s: State, c: Known) -> bool
     requires { ⌜ AtItem (now board) (now index) s c ⌝ }
-    ensures { λ r. ⌜ r ≡ commitmentOk base (itemAfter (now (board .entry)) (s .items)) ⌝ }
+    ensures { λ r. ⌜ r ≡ commitmentOk (formatOf (now (board .entry))) (itemAfter (now (board .entry)) (s .items)) ⌝ }
 {
     if c.item.head.code < Head::VOTER_COMMITMENT {
         return true;
@@ -66,41 +67,64 @@ fn commitment_ok(board: &[u32], index: &[u32], s: State, c: Known) -> bool
 // 19, ballot: as many cryptograms as contests, each contest one that the voter may vote in, and the spare bits of the cryptograms zero.
 fn ballot_ok(board: &[u32], index: &[u32], s: State, c: Known) -> bool
     requires { ⌜ AtItem (now board) (now index) s c ⌝ }
-    ensures { λ r. ⌜ r ≡ ballotOk base (before (now (board .entry)) (s .items)) (itemAfter (now (board .entry)) (s .items)) ⌝ }
+    ensures { λ r. ⌜ r ≡ ruleAfter ballotOk (now (board .entry)) (s .items) ⌝ }
 {
     if c.item.head.code != Head::BALLOT {
         return true;
     }
     let item = c.item;
-    let contests = word(board, item, Content::SET);
-    let cryptograms = words::wide(u32::count_ones(contests));
-    if c.item.head.count != 1 + cryptograms * Size::CRYPTOGRAM {
+    let sets = Format::of(board).sets;
+    let cryptograms = words::wide(sets::count(board, item.content, sets));
+    if item.head.count != sets + cryptograms * Size::CRYPTOGRAM {
         return false;
     }
-    if contests & !enabled(board, index, s, c) != 0 {
+    if !may_vote(board, index, s, c, sets) {
         return false;
     }
-    cryptograms_ok(board, item, cryptograms)
+    cryptograms_ok(board, item, sets, cryptograms)
 }
 
-// The contests in which the voter may vote, as a set: those of the session that an open round enables.
-fn enabled(board: &[u32], index: &[u32], s: State, c: Known) -> u32
-    requires { ⌜ AtItem (now board) (now index) s c ⌝ }
-    ensures { λ r. ⌜ r ≡ mayVoteSet (before (now (board .entry)) (s .items)) (itemAfter (now (board .entry)) (s .items)) ⌝ }
+// Whether the voter may vote in each contest of a ballot: the session has it, and an open round enables it.
+fn may_vote(board: &[u32], index: &[u32], s: State, c: Known, sets: usize) -> bool
+    requires { ⌜ AtBallot (now board) (now index) s c sets ⌝ }
+    ensures { λ r. ⌜ r ≡ allIn (part (c .item .content) sets (now (board .entry)))
+        (mayVote (before (now (board .entry)) (s .items)) (itemAfter (now (board .entry)) (s .items))) ⌝ }
 {
+    if !is_own(board, index, s, c, sets) {
+        return false;
+    }
     let time = words::pair_at(board, c.item.time);
-    let own = earlier_word(board, index, s.items, c.session, Content::SESSION_CONTESTS);
-    own & rounds::enabled(board, index, s, time)
+    let enabled = rounds::enabled(board, index, s, time);
+    sets::is_within(board, c.item.content, sets, &enabled, 0)
 }
 
-// Whether the low 16 bits of the last word of each of n cryptograms are zero.
-fn cryptograms_ok(board: &[u32], item: Item, n: usize) -> bool
-    requires { ⌜ (item .content + item .head .count ≤ length (now board)) × (n ≤ setBits) ⌝ }
-    ensures { λ r. ⌜ r ≡ cryptogramsOk (base .cryptogram) n (part (item .content) (item .head .count) (now (board .entry))) ⌝ }
+// Whether the session has each contest of a ballot. Without a session there is none.
+fn is_own(board: &[u32], index: &[u32], s: State, c: Known, sets: usize) -> bool
+    requires { ⌜ AtBallot (now board) (now index) s c sets ⌝ }
+    ensures { λ r. ⌜ r ≡ allIn (part (c .item .content) sets (now (board .entry))) (member (ownContests (now (board .entry)) s)) ⌝ }
+{
+    if c.session == 0 {
+        return sets::is_empty(board, c.item.content, sets);
+    }
+    let session = index::entry(board, index, s.items, c.session).item;
+    sets::is_within(
+        board,
+        c.item.content,
+        sets,
+        board,
+        session.content + Content::SESSION_CONTESTS,
+    )
+}
+
+// Whether the low 16 bits of the last word of each of n cryptograms behind a set are zero.
+fn cryptograms_ok(board: &[u32], item: Item, sets: usize, n: usize) -> bool
+    requires { ⌜ (item .content + item .head .count ≤ length (now board)) × (sets ≤ 8) × (n ≤ setBits * sets) ⌝ }
+    ensures { λ r. ⌜ r ≡ cryptogramsOk sets (formatOf (now (board .entry)) .cryptogram) n
+        (part (item .content) (item .head .count) (now (board .entry))) ⌝ }
 {
     let mut k = n;
     while k > 0 {
-        let last = word(board, item, k * Size::CRYPTOGRAM);
+        let last = word(board, item, sets + k * Size::CRYPTOGRAM - 1);
         if last % Range::CRYPTOGRAM != 0 {
             return false;
         }

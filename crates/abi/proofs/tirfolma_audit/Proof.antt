@@ -7,7 +7,7 @@ use Rattle.abi.proofs.tirfolma_audit.Tie as tie
 returns : tie.Need-returns
 returns c =
     let s = c .before .before .before .before .before .before .before in
-    audited-short _ (s .args .index .now) (s .args .ballots .now) (s .args .answer .now) (c .if1 .taken)
+    audited-short _ _ (s .args .index .now) (s .args .ballots .now) (s .args .answer .now) (c .if1 .taken)
 
 audit-requires : tie.Need-audit-requires
 audit-requires c κs = search needs
@@ -28,7 +28,7 @@ returns-2 : tie.Need-returns-2
 returns-2 c =
     let s = c .before .before .before .before .before .before .before .before .before .before .before .before .before .before .before .before .before .before in
     let a = c .before .before .before .before .before .before .before .before .audit in
-    audited-told _ (s .args .index .now) (s .args .ballots .now) (s .args .answer .now) (c .before .before .before .before .before .before .before .before .before .before .before .if1 .left) (a .result) (a .ensures .0) (a .ensures .1 .0) (a .ensures .1 .1) (c .before .before .put-report .ensures)
+    audited-told _ _ (s .args .index .now) (s .args .ballots .now) (s .args .answer .now) (c .before .before .before .before .before .before .before .before .before .before .before .if1 .left) (a .result) (a .ensures .0) (a .ensures .1 .0) (a .ensures .1 .1) (c .before .before .put-report .ensures)
 
 pub tirfolma-audit-spec : {M : Type 1} → statement M
 tirfolma-audit-spec =

@@ -13,7 +13,7 @@ returns c =
     let x = start .args in
     audited-unread (x .board .now) (x .verdicts .now) (x .roll .now) (x .index .now) (x .ballots .now) _
     (audit-large (x .board .now) (x .verdicts .now) (x .roll .now) (x .index .now) (x .ballots .now) (c .before .if1 .taken)) (c .refused .result)
-    (c .refused .ensures)
+    (c .refused .ensures (x .board .now))
 
 refused-requires-2 : tie.Need-refused-requires-2
 refused-requires-2 c κs = search needs
@@ -23,7 +23,7 @@ returns-2 c =
     let start = c .before .before .before .before .before .before .before .before in
     let x = start .args in
     audited-unread (x .board .now) (x .verdicts .now) (x .roll .now) (x .index .now) (x .ballots .now) _
-    (audit-short-index (x .board .now) (x .verdicts .now) (x .roll .now) (x .index .now) (x .ballots .now) (c .before .before .if1 .left) (c .before .if2 .taken)) (c .refused2 .result) (c .refused2 .ensures)
+    (audit-short-index (x .board .now) (x .verdicts .now) (x .roll .now) (x .index .now) (x .ballots .now) (c .before .before .if1 .left) (c .before .if2 .taken)) (c .refused2 .result) (c .refused2 .ensures (x .board .now))
 
 refused-requires-3 : tie.Need-refused-requires-3
 refused-requires-3 c κs = search needs
@@ -33,7 +33,7 @@ returns-3 c =
     let start = c .before .before .before .before .before .before .before .before .before in
     let x = start .args in
     audited-unread (x .board .now) (x .verdicts .now) (x .roll .now) (x .index .now) (x .ballots .now) _
-    (audit-short-ballots (x .board .now) (x .verdicts .now) (x .roll .now) (x .index .now) (x .ballots .now) (c .before .before .before .if1 .left) (c .before .before .if2 .left) (c .before .if3 .taken)) (c .refused3 .result) (c .refused3 .ensures)
+    (audit-short-ballots (x .board .now) (x .verdicts .now) (x .roll .now) (x .index .now) (x .ballots .now) (c .before .before .before .if1 .left) (c .before .before .if2 .left) (c .before .if3 .taken)) (c .refused3 .result) (c .refused3 .ensures (x .board .now))
 
 read-requires : tie.Need-read-requires
 read-requires c κs = search needs

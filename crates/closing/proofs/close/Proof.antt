@@ -3,7 +3,7 @@ use native.Mathlib.Omega.{arith}
 use borrow.Author.Tests.{not-true, not-false}
 use mathlib.Core.Path.{sym, ap, _∙_}
 use Rattle.model.specs.Report.{reportOf}
-use Rattle.format.specs.Base.{base}
+use Rattle.format.specs.Format.{formatOf}
 use Rattle.state.proofs.Step.{mains-few}
 use Rattle.tally.proofs.Fit.{holds-rows, rows-few, rows-fit}
 use Rattle.closing.proofs.Closing.{close-bad, close-good, accepted-report}
@@ -22,7 +22,7 @@ returns : tie.Need-returns
 returns c =
     let start = c .before .before .before .before .before .before .before in
     let x = start .args in
-    c .refused .ensures ∙ ap (reportOf base)
+    c .refused .ensures (x .board .now) ∙ ap (reportOf (formatOf (x .board .now)))
     (sym (close-bad (x .board .now) (x .verdicts .now) (x .s) (sym (c .before .before .is-closed .ensures) ∙ not-true _ (c .before .if1 .taken))))
 
 total-weight-requires : tie.Need-total-weight-requires
@@ -57,7 +57,7 @@ returns-2 c =
     let stands = start .pre .0 .1 in
     accepted-report stands _ _ (c .before .before .before .before .total-weight .ensures _ (holds-rows stands (start .pre .0 .2)))
     (c .before .before .before .end-address .ensures)
-    ∙ ap (reportOf base) (sym (close-good (x .board .now) (x .verdicts .now) (x .s) (sym (at-is-closed .is-closed .ensures) ∙ not-false _ (one .if1 .left))))
+    ∙ ap (reportOf (formatOf (x .board .now))) (sym (close-good (x .board .now) (x .verdicts .now) (x .s) (sym (at-is-closed .is-closed .ensures) ∙ not-false _ (one .if1 .left))))
 
 pub close-spec : {M : Type 1} → statement M
 close-spec =

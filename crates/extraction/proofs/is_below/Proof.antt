@@ -1,6 +1,6 @@
 -- `is_below` meets its contract. Assumes nothing.
 use mathlib.Core.Path.{sym}
-use Rattle.state.proofs.Sets.{allIn-below, allIn-wide}
+use Rattle.sets.proofs.Sets.{allIn-below, allIn-wide}
 use native.Mathlib.Omega.{arith}
 use borrow.Author.Needs.{needs}
 use Rattle.extraction.proofs.is_below.Statement.{statement}

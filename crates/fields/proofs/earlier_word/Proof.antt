@@ -2,7 +2,7 @@
 use Rattle.index.proofs.Reading.{known-within}
 use mathlib.Core.Path.{_∙_}
 use Rattle.model.proofs.Unchecked.{length-history}
-use Rattle.format.specs.Base.{base}
+use Rattle.format.specs.Format.{formatOf}
 use Rattle.index.specs.Kept.{before}
 use Rattle.fields.proofs.Words.{word-none, word-after, known-content-word}
 use native.Mathlib.Omega.{arith}
@@ -18,7 +18,7 @@ returns c =
 returns-2 : tie.Need-returns-2
 returns-2 c =
     let s = c .before .before .before .before in
-    word-after (before (s .args .board .now) (s .args .items)) (s .args .k) (s .args .n) (omega (arith, length-history base (s .args .board .now) (s .args .items), c .if2 .taken))
+    word-after (before (s .args .board .now) (s .args .items)) (s .args .k) (s .args .n) (omega (arith, length-history (formatOf (s .args .board .now)) (s .args .board .now) (s .args .items), c .if2 .taken))
 
 entry-requires : tie.Need-entry-requires
 entry-requires c κs = search needs

@@ -1,5 +1,5 @@
 -- `program::audit_text` meets its contract. Assumes nothing.
-use Rattle.format.specs.Base.{base}
+use Rattle.format.specs.Format.{formatOf}
 use Rattle.program.proofs.Texts.{audit-shown, rows-fit}
 use native.Mathlib.Omega.{arith}
 use borrow.Author.Needs.{needs}
@@ -22,7 +22,7 @@ report-text-requires : tie.Need-report-text-requires
 report-text-requires c κs =
     let s = c .before .before .before .before .before .before .before .before .before .before .before in
     let a = c .before .before .before .before .audit in
-    let fits = rows-fit base (s .args .board .now) (s .args .verdicts .now) (s .args .roll .now) _ _ _ (a .ensures .0) (omega arith) in
+    let fits = rows-fit (formatOf (s .args .board .now)) (s .args .board .now) (s .args .verdicts .now) (s .args .roll .now) _ _ _ (a .ensures .0) (omega arith) in
     (omega arith, omega (arith, a .kept .1 .1 .1 .1 .0))
 
 same-length : tie.Need-same-length

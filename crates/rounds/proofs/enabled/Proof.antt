@@ -3,18 +3,18 @@ use Prim.Native.Nat.{_-_, _≤_}
 use mathlib.Core.Path.{_≡_, sym, _∙_}
 use borrow.Author.Needs.{needs}
 use Rattle.index.specs.Kept.{before}
-use Rattle.rounds.proofs.Slots.{contestsBelow, contestsBelow-none, contestsBelow-all, force-in, contests-next}
+use Rattle.rounds.proofs.Slots.{Enabled, enabled-none, enabled-all, force-in, enabled-next}
 use Rattle.rounds.proofs.enabled.Statement.{statement}
 use Rattle.rounds.proofs.enabled.Tie as tie
 
 abbrev Inv-loop : tie.InvT-loop
-Inv-loop board index time count slots contests₀ j₀ contests j = (j ≤ 16) × (contests ≡ contestsBelow time (before board count) j)
+Inv-loop board index time count slots contests₀ j₀ contests j = (j ≤ 16) × Enabled time (before board count) j contests
 
 abbrev μ-loop : tie.MeasureT-loop
 μ-loop board index time count slots contests₀ j₀ contests j = 16 - j
 
 loop-holds : tie.Need-loop-holds Inv-loop μ-loop
-loop-holds c = (search needs, sym (contestsBelow-none _ _))
+loop-holds c = (search needs, enabled-none _ _)
 
 mul-wide : tie.Need-mul-wide Inv-loop μ-loop
 mul-wide c = search needs
@@ -25,8 +25,8 @@ array-read-wide c = search needs
 wide-requires : tie.Need-wide-requires Inv-loop μ-loop
 wide-requires c κs = search needs
 
-contests-under-requires : tie.Need-contests-under-requires Inv-loop μ-loop
-contests-under-requires c κs =
+with-contests-requires : tie.Need-with-contests-requires Inv-loop μ-loop
+with-contests-requires c κs =
     let s = c .before .before .before .before .before .before in
     (s .pre .0, force-in (s .pre .0) (s .pre .1) (c .before .before .loop .j) _ (c .before .loop-test .taken) (c .wide .ensures))
 
@@ -40,15 +40,14 @@ loop-again : tie.Need-loop-again Inv-loop μ-loop
 loop-again c =
     let s = c .before .before .before .before .before .before .before in (
       search needs,
-      contests-next (s .pre .0) (s .pre .1) (c .before .before .before .loop .j) _ (c .before .before .loop-test .taken)
-          (c .before .wide .ensures) (s .args .time) _ _ (c .before .before .before .loop .inv .1) (c .contests-under .ensures),
+      enabled-next (s .pre .0) (s .pre .1) (c .before .before .before .loop .j) _ (c .before .before .loop-test .taken)
+          (c .before .wide .ensures) (s .args .time) (c .before .before .before .loop .contests) (c .with-contests .result) (c .before .before .before .loop .inv .1) (c .with-contests .ensures),
     )
 
 returns : tie.Need-returns Inv-loop μ-loop
 returns c =
     let a = c .before .before .before .before .before .args in
-    c .before .loop .inv .1
-    ∙ contestsBelow-all (a .time) (before (a .board .now) (a .s .items)) (c .before .loop .j) (c .before .loop .inv .0) (c .loop-test .left)
+    enabled-all (a .time) (before (a .board .now) (a .s .items)) (c .before .loop .j) (c .before .loop .contests) (c .before .loop .inv .0) (c .loop-test .left) (c .before .loop .inv .1)
 
 pub enabled-spec : {M : Type 1} → statement M
 enabled-spec =
@@ -60,7 +59,7 @@ enabled-spec =
     mul-wide
     array-read-wide
     wide-requires
-    contests-under-requires
+    with-contests-requires
     add-j
     loop-less
     loop-again

@@ -1,20 +1,20 @@
 -- `is_open` meets its contract. Assumes nothing.
 use native.Mathlib.Omega.{arith}
-use Rattle.rounds.proofs.Round.{round-within, open-started, open-unstarted}
+use Rattle.rounds.proofs.Round.{round-places, open-started, open-unstarted}
 use Rattle.rounds.proofs.is_open.Statement.{statement}
 use Rattle.rounds.proofs.is_open.Tie as tie
 
-add-at : tie.Need-add-at
-add-at c = omega (arith, round-within (c .before .before .pre))
+sub-at : tie.Need-sub-at
+sub-at c = omega (arith, round-places (c .before .before .pre))
+
+sub-pair-at : tie.Need-sub-pair-at
+sub-pair-at c = omega (arith, round-places (c .before .before .pre))
 
 pair-at-requires : tie.Need-pair-at-requires
-pair-at-requires c κs = omega (arith, round-within (c .before .before .pre))
-
-add-pair-at : tie.Need-add-pair-at
-add-pair-at c = omega (arith, round-within (c .before .before .before .pre))
+pair-at-requires c κs = omega (arith, round-places (c .before .before .pre))
 
 pair-at-requires-2 : tie.Need-pair-at-requires-2
-pair-at-requires-2 c κs = omega (arith, round-within (c .before .before .before .pre))
+pair-at-requires-2 c κs = omega (arith, round-places (c .before .before .before .pre))
 
 returns : tie.Need-returns
 returns c =
@@ -28,4 +28,4 @@ returns-2 c =
 
 pub is-open-spec : {M : Type 1} → statement M
 is-open-spec =
-    tie.close (tie.spec add-at pair-at-requires add-pair-at pair-at-requires-2 returns returns-2)
+    tie.close (tie.spec sub-at sub-pair-at pair-at-requires pair-at-requires-2 returns returns-2)

@@ -4,7 +4,7 @@ use native.Mathlib.Omega.{arith}
 use borrow.Author.Needs.{needs}
 use Rattle.model.specs.Audit.{itemLimit}
 use Rattle.model.proofs.Unchecked.{length-history}
-use Rattle.format.specs.Base.{base}
+use Rattle.format.specs.Format.{formatOf}
 use Rattle.index.specs.Kept.{before}
 use Rattle.tally.proofs.Casts.{number-small, number-is}
 use Rattle.tally.proofs.main_number.Statement.{statement}
@@ -28,7 +28,7 @@ returns c =
     let p = s .pre in
     let h = before (s .args .board .now) (s .args .count) in
     rw (c .mains-before .ensures)
-    (number-is h (s .args .k) (p .1 .0) (omega (arith, p .1 .1, length-history base (s .args .board .now) (s .args .count))) (p .1 .2))
+    (number-is h (s .args .k) (p .1 .0) (omega (arith, p .1 .1, length-history (formatOf (s .args .board .now)) (s .args .board .now) (s .args .count))) (p .1 .2))
 
 pub main-number-spec : {M : Type 1} → statement M
 main-number-spec = tie.close (tie.spec mains-before-requires add-result cast-result returns)

@@ -1,71 +1,95 @@
 -- `ballot_ok` meets its contract. Assumes nothing.
-use mathlib.Core.Path.{_∙_, refl}
-use borrow.Author.Tests.{eq-eqb, ne-eqb}
-use Rattle.fields.proofs.Words.{content-within, content-word, ones-few}
-use Rattle.voting.proofs.Rules.{ballot-other, ballot-is}
+use mathlib.Core.Path.{_≡_, ap, refl, sym, _∙_}
+use Prim.Native.Nat.{_*_, _≤_}
 use native.Mathlib.Omega.{arith}
 use borrow.Author.Needs.{needs}
+use borrow.Author.Tests.{eq-eqb, ne-eqb, not-true, not-false}
+use Rattle.model.specs.Lists.{part}
+use Rattle.model.specs.Words.{size}
+use Rattle.format.specs.declared.format.Format.{Format}
+use Rattle.sets.proofs.Sets.{set-size-few}
+use Rattle.fields.proofs.Words.{content-within}
+use Rattle.voting.specs.Rules.{AtBallot}
+use Rattle.voting.proofs.Rules.{ballot-other, sets-few, set-within, ballot-is}
 use Rattle.voting.proofs.ballot_ok.Statement.{statement}
 use Rattle.voting.proofs.ballot_ok.Tie as tie
 
 returns : tie.Need-returns
-returns c =
-    ballot-other (c .before .before .before .before .pre) (c .if1 .taken)
+returns c = ballot-other (c .before .before .before .before .pre) (c .if1 .taken)
 
-word-requires : tie.Need-word-requires
-word-requires c κs =
-    content-within (c .before .before .before .before .before .pre)
+of-requires : tie.Need-of-requires
+of-requires c κs = search needs
+
+-- the item is a ballot, on a board whose sets have the words that were found
+at-ballot : (c : tie.After-of) → let s = c .before .before .before .before .before .before in
+    AtBallot (s .args .board .now) (s .args .index .now) (s .args .s) (s .args .c) (c .of .result .sets)
+at-ballot c = record {
+  at = c .before .before .before .before .before .before .pre;
+  type = c .before .before .if1 .left;
+  width = ap (λ (f : Format). f .sets) (c .of .ensures);
+}
+
+count-requires : tie.Need-count-requires
+count-requires c κs = (set-within (at-ballot c), sets-few (at-ballot c))
+
+-- so many contests
+counted : (c : tie.After-wide) → let s = c .before .before .before .before .before .before .before .before in let sets = c .before .before .of .result .sets in
+    (c .wide .result ≡ size (part (s .args .c .item .content) sets (s .args .board .now))) × (c .wide .result ≤ 32 * sets)
+counted c =
+    let s = c .before .before .before .before .before .before .before .before in
+    let is = c .wide .ensures ∙ c .before .count .ensures in
+    (is, rw is (set-size-few (s .args .board .now) (s .args .c .item .content) (c .before .before .of .result .sets)))
 
 wide-requires : tie.Need-wide-requires
 wide-requires c κs = search needs
 
 mul-if2 : tie.Need-mul-if2
-mul-if2 c =
-    omega (arith, c .wide .ensures, ones-few (c .before .word .result) (omega arith))
+mul-if2 c = search needs
 
 add-if2 : tie.Need-add-if2
-add-if2 c =
-    omega (arith, c .wide .ensures, ones-few (c .before .word .result) (omega arith))
+add-if2 c = record { fits = omega (arith, counted c, sets-few (at-ballot (c .before .before))) }
 
 returns-2 : tie.Need-returns-2
 returns-2 c =
     let w = c .before .before in
-    let s = w .before .before .before .before .before .before .before in
-    rw (ne-eqb _ _ (c .if2 .taken)) at (ballot-is (s .pre) (λ k. omega (arith, w .before .before .before .before .before .before .shared-slice-known .given k)) (w .before .before .before .if1 .left) (w .before .word .result) (w .wide .result) _ (omega arith) (w .before .word .ensures ∙ content-word (s .pre) 0) (w .wide .ensures) refl)
+    rw (ne-eqb _ _ (c .if2 .taken)) at (ballot-is (at-ballot (w .before .before)) (w .wide .result) _ (counted w .0) refl)
 
-enabled-requires : tie.Need-enabled-requires
-enabled-requires c κs = search needs
+may-vote-requires : tie.Need-may-vote-requires
+may-vote-requires c κs = at-ballot (c .before .before .before .before)
 
 returns-3 : tie.Need-returns-3
 returns-3 c =
     let w = c .before .before .before .before in
-    let s = w .before .before .before .before .before .before .before in
-    rw (eq-eqb _ _ (c .before .before .if2 .left), ne-eqb _ _ (c .if3 .taken)) at (ballot-is (s .pre) (λ k. omega (arith, w .before .before .before .before .before .before .shared-slice-known .given k)) (w .before .before .before .if1 .left) (w .before .word .result) (w .wide .result) _ (omega arith) (w .before .word .ensures ∙ content-word (s .pre) 0) (w .wide .ensures) (c .before .enabled .ensures))
+    let may = c .before .may-vote .result in
+    rw (eq-eqb _ _ (c .before .before .if2 .left), not-true may (c .if3 .taken)) at
+    (ballot-is (at-ballot (w .before .before)) (w .wide .result) may (counted w .0) (c .before .may-vote .ensures))
 
 cryptograms-ok-requires : tie.Need-cryptograms-ok-requires
 cryptograms-ok-requires c κs =
     let w = c .before .before .before .before in
-    let s = w .before .before .before .before .before .before .before in
-    (content-within (s .pre), omega (arith, w .wide .ensures, ones-few (w .before .word .result) (omega arith)))
+    let b = at-ballot (w .before .before) in
+    (content-within (b .at), sets-few b, counted w .1)
 
 returns-4 : tie.Need-returns-4
 returns-4 c =
     let w = c .before .before .before .before .before in
-    let s = w .before .before .before .before .before .before .before in
+    let may = c .before .before .may-vote .result in
     c .cryptograms-ok .ensures
-    ∙ rw (eq-eqb _ _ (c .before .before .before .if2 .left), eq-eqb _ _ (c .before .if3 .left)) at (ballot-is (s .pre) (λ k. omega (arith, w .before .before .before .before .before .before .shared-slice-known .given k)) (w .before .before .before .if1 .left) (w .before .word .result) (w .wide .result) _ (omega arith) (w .before .word .ensures ∙ content-word (s .pre) 0) (w .wide .ensures) (c .before .before .enabled .ensures))
+    ∙ rw (eq-eqb _ _ (c .before .before .before .if2 .left), not-false may (c .before .if3 .left)) at
+    (ballot-is (at-ballot (w .before .before)) (w .wide .result) may (counted w .0) (c .before .before .may-vote .ensures))
 
 pub ballot-ok-spec : {M : Type 1} → statement M
 ballot-ok-spec =
     tie.close
     (tie.spec
     returns
-    word-requires
+    of-requires
+    count-requires
     wide-requires
     mul-if2
     add-if2
     returns-2
-    enabled-requires
+    may-vote-requires
     returns-3
     cryptograms-ok-requires
     returns-4)

@@ -10,17 +10,24 @@ use Rattle.voting.proofs.cryptograms_ok.Statement.{statement}
 use Rattle.voting.proofs.cryptograms_ok.Tie as tie
 
 abbrev Inv-loop : tie.InvT-loop
-Inv-loop board item n k₀ k =
-    (k ≤ n) × (cryptogramsOk 17 n (part (item .content) (item .head .count) board) ≡ cryptogramsOk 17 k (part (item .content) (item .head .count) board))
+Inv-loop board item sets n k₀ k =
+    let content = part (item .content) (item .head .count) board in
+    (k ≤ n) × (cryptogramsOk sets 17 n content ≡ cryptogramsOk sets 17 k content)
 
 abbrev μ-loop : tie.MeasureT-loop
-μ-loop board item n k₀ k = k
+μ-loop board item sets n k₀ k = k
 
 loop-holds : tie.Need-loop-holds Inv-loop μ-loop
 loop-holds c = search needs
 
 mul-word : tie.Need-mul-word Inv-loop μ-loop
 mul-word c = search needs
+
+add-word : tie.Need-add-word Inv-loop μ-loop
+add-word c = search needs
+
+sub-word : tie.Need-sub-word Inv-loop μ-loop
+sub-word c = search needs
 
 word-requires : tie.Need-word-requires Inv-loop μ-loop
 word-requires c κs =
@@ -30,7 +37,7 @@ returns : tie.Need-returns Inv-loop μ-loop
 returns c =
     let s = c .before .before .before .before .before in
     let l = c .before .before .before in
-    sym (l .loop .inv .1 ∙ last-stop (part (s .args .item .content) (s .args .item .head .count) (s .args .board .now)) (l .loop .k) _ (c .before .before .loop-test .taken) (c .before .word .ensures) (c .if1 .taken))
+    sym (l .loop .inv .1 ∙ last-stop (s .args .sets) (part (s .args .item .content) (s .args .item .head .count) (s .args .board .now)) (l .loop .k) _ (c .before .before .loop-test .taken) (c .before .word .ensures) (c .if1 .taken))
 
 sub-k : tie.Need-sub-k Inv-loop μ-loop
 sub-k c = search needs
@@ -42,13 +49,13 @@ loop-again : tie.Need-loop-again Inv-loop μ-loop
 loop-again c =
     let s = c .before .before .before .before .before in
     let l = c .before .before .before in
-    (search needs, l .loop .inv .1 ∙ last-go (part (s .args .item .content) (s .args .item .head .count) (s .args .board .now)) (l .loop .k) _ (c .before .before .loop-test .taken) (c .before .word .ensures) (c .if1 .left))
+    (search needs, l .loop .inv .1 ∙ last-go (s .args .sets) (part (s .args .item .content) (s .args .item .head .count) (s .args .board .now)) (l .loop .k) _ (c .before .before .loop-test .taken) (c .before .word .ensures) (c .if1 .left))
 
 returns-2 : tie.Need-returns-2 Inv-loop μ-loop
 returns-2 c =
     let s = c .before .before .before in
     let l = c .before in
-    sym (l .loop .inv .1 ∙ last-none (part (s .args .item .content) (s .args .item .head .count) (s .args .board .now)) (l .loop .k) (omega arith))
+    sym (l .loop .inv .1 ∙ last-none (s .args .sets) (part (s .args .item .content) (s .args .item .head .count) (s .args .board .now)) (l .loop .k) (omega arith))
 
 pub cryptograms-ok-spec : {M : Type 1} → statement M
 cryptograms-ok-spec =
@@ -58,6 +65,8 @@ cryptograms-ok-spec =
     μ-loop
     loop-holds
     mul-word
+    add-word
+    sub-word
     word-requires
     returns
     sub-k

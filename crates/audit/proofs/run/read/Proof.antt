@@ -30,7 +30,7 @@ returns c =
     let start = at-clear .before .before .before .before .before .before .before in
     let x = start .args in
     audited-roll (x .board .now) (x .verdicts .now) (x .roll .now) (x .index .now) (x .ballots .now) (start .pre)
-    (sym (c .before .before .is-bad-roll .ensures) ∙ c .before .if1 .taken) (c .refused .result) (c .refused .ensures)
+    (sym (c .before .before .is-bad-roll .ensures) ∙ c .before .if1 .taken) (c .refused .result) (c .refused .ensures (x .board .now))
     (at-clear .clear .ensures) (at-clear2 .clear2 .ensures)
 
 is-empty-requires : tie.Need-is-empty-requires
@@ -54,7 +54,7 @@ returns-2 c =
     let x = start .args in
     audited-empty (x .board .now) (x .verdicts .now) (x .roll .now) (x .index .now) (x .ballots .now) (start .pre)
     (sym (good .before .is-bad-roll .ensures) ∙ good .if1 .left) (sym (c .before .before .is-empty .ensures) ∙ c .before .if2 .taken)
-    (c .refused2 .result) (c .refused2 .ensures) (at-clear .clear .ensures) (at-clear2 .clear2 .ensures)
+    (c .refused2 .result) (c .refused2 .ensures (x .board .now)) (at-clear .clear .ensures) (at-clear2 .clear2 .ensures)
 
 slice-aggregate-run : tie.Need-slice-aggregate-run
 slice-aggregate-run c = search needs

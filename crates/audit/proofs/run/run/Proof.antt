@@ -44,7 +44,7 @@ returns c =
     let head = c .before .before in
     let start = head .before .before .before .before .before .before .before .before .before in
     stop-ended (start .args .board .now) (start .args .verdicts .now) (start .args .roll .now) (head .loop .inv) (c .before .if1 .taken)
-    (c .refused .result) (c .refused .ensures)
+    (c .refused .result) (c .refused .ensures (start .args .board .now))
 
 mul-of : tie.Need-mul-of Inv-loop μ-loop
 mul-of c = search needs
@@ -103,7 +103,7 @@ returns-3 c =
     let start = head .before .before .before .before .before .before .before .before .before in
     stop-full (start .args .board .now) (start .args .verdicts .now) (start .args .roll .now) (head .loop .inv) (one .if1 .left)
     (c .before .before .before .before .before .of .ensures) (c .before .before .before .if2 .left) (c .before .if3 .taken)
-    (c .refused2 .result) (c .refused2 .ensures)
+    (c .refused2 .result) (c .refused2 .ensures (start .args .board .now))
 
 advance-requires : tie.Need-advance-requires Inv-loop μ-loop
 advance-requires c κs =
@@ -154,7 +154,7 @@ returns-4 c =
     let more = three .if3 .left in
     stop-refused (start .args .board .now) (start .args .verdicts .now) (start .args .roll .now) (head .loop .inv) (one .if1 .left) (at-of .of .ensures)
     (two .if2 .left) (omega arith) (at-advance .advance .ensures) _ (c .before .before .finding .given .1) (c .refused3 .result)
-    (c .refused3 .ensures)
+    (c .refused3 .ensures (start .args .board .now))
 
 enum-told : tie.Need-enum-told Inv-loop μ-loop
 enum-told c = search needs

@@ -9,23 +9,23 @@ ruleset tests = (eq-eqb, ne-eqb, le-leb, lt-leb)
 
 returns : tie.Need-returns
 unfolding rowIn table if_then_else_
-returns c = rw (c .match .keys1)
+returns c f = rw (c .match .keys1)
 
 returns-2 : tie.Need-returns-2
 unfolding rowIn table if_then_else_
-returns-2 c = rw (c .match .keys2)
+returns-2 c f = rw (c .match .keys2)
 
 returns-3 : tie.Need-returns-3
 unfolding rowIn table if_then_else_
-returns-3 c = rw (c .match .keys3)
+returns-3 c f = rw (c .match .keys3)
 
 returns-4 : tie.Need-returns-4
 unfolding rowIn table if_then_else_
-returns-4 c = rw (c .match .keys4)
+returns-4 c f = rw (c .match .keys4)
 
 returns-5 : tie.Need-returns-5
 unfolding rowIn table if_then_else_
-returns-5 c = search tests
+returns-5 c f = search tests
 
 pub hidden-row-spec : {M : Type 1} → statement M
 hidden-row-spec = tie.close (tie.spec returns returns-2 returns-3 returns-4 returns-5)

@@ -1,11 +1,18 @@
 -- `table::main_row` meets its contract: at each code the model's table is computed. Assumes nothing.
 use borrow.Author.Tests.{eq-eqb, ne-eqb, le-leb, lt-leb}
+use borrow.Author.Needs.{needs}
 use Rattle.model.specs.Lists.{if_then_else_}
 use Rattle.model.specs.Types.{rowIn, table}
 use Rattle.format.proofs.table.main_row.Statement.{statement}
 use Rattle.format.proofs.table.main_row.Tie as tie
 
 ruleset tests = (eq-eqb, ne-eqb, le-leb, lt-leb)
+
+add-round : tie.Need-add-round
+add-round c = search needs
+
+add-session : tie.Need-add-session
+add-session c = search needs
 
 returns : tie.Need-returns
 unfolding rowIn table if_then_else_
@@ -75,6 +82,8 @@ pub main-row-spec : {M : Type 1} → statement M
 main-row-spec =
     tie.close
     (tie.spec
+    add-round
+    add-session
     returns
     returns-2
     returns-3

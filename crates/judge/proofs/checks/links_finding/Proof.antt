@@ -2,10 +2,11 @@
 use mathlib.Core.Path.{_≡_, ap, _∙_}
 use mathlib.Core.Bool.{true}
 use borrow.Author.Needs.{needs}
+use Rattle.model.specs.Format.{Format}
 use Rattle.model.specs.Item.{Item}
 use Rattle.model.specs.History.{History}
 use Rattle.model.specs.Links.{addressOk, previousOk, parentOk}
-use Rattle.format.specs.Base.{base}
+use Rattle.format.specs.Format.{formatOf}
 use Rattle.format.specs.Table.{parentRuleOf}
 use Rattle.index.specs.Kept.{before, itemAfter}
 use Rattle.judge.proofs.First.{met, unmet, links-address, links-previous, links-parent, links-time, links-met}
@@ -23,6 +24,9 @@ start-2 c = start-1 (c .before .before)
 abbrev start-3 : tie.Else3 → tie.Start
 start-3 c = start-2 (c .before .before)
 
+abbrev format : tie.Start → Format
+format s = formatOf (s .args .board .now)
+
 abbrev history : tie.Start → History
 history s = before (s .args .board .now) (s .args .s .items)
 
@@ -30,13 +34,13 @@ abbrev item : tie.Start → Item
 item s = itemAfter (s .args .board .now) (s .args .s .items)
 
 -- what each check that was met shows
-address-met : (c : tie.Else1) → addressOk base (item (start-1 c)) ≡ true
-address-met c = met (c .before .address-ok .ensures ∙ ap (addressOk base) (at-read (start-1 c .pre .0))) (c .if1 .left)
+address-met : (c : tie.Else1) → addressOk (format (start-1 c)) (item (start-1 c)) ≡ true
+address-met c = met (c .before .address-ok .ensures ∙ ap (addressOk (format (start-1 c))) (at-read (start-1 c .pre .0))) (c .if1 .left)
 
-previous-met : (c : tie.Else2) → previousOk base (history (start-2 c)) (item (start-2 c)) ≡ true
+previous-met : (c : tie.Else2) → previousOk (format (start-2 c)) (history (start-2 c)) (item (start-2 c)) ≡ true
 previous-met c = met (c .before .previous-ok .ensures) (c .if2 .left)
 
-parent-met : (c : tie.Else3) → parentOk base (history (start-3 c)) (parentRuleOf (start-3 c .args .row .parent)) (item (start-3 c)) ≡ true
+parent-met : (c : tie.Else3) → parentOk (format (start-3 c)) (history (start-3 c)) (parentRuleOf (start-3 c .args .row .parent)) (item (start-3 c)) ≡ true
 parent-met c = met (c .before .parent-ok .ensures) (c .if3 .left)
 
 address-ok-requires : tie.Need-address-ok-requires
@@ -45,7 +49,7 @@ address-ok-requires c κs = at-own (c .before .before .pre .0)
 returns : tie.Need-returns
 returns c on v =
     let start = c .before .before .before .before in
-    links-address _ on _ v _ _ (unmet (c .before .address-ok .ensures ∙ ap (addressOk base) (at-read (start .pre .0))) (c .if1 .taken))
+    links-address _ on _ v _ _ (unmet (c .before .address-ok .ensures ∙ ap (addressOk (format start)) (at-read (start .pre .0))) (c .if1 .taken))
 
 previous-ok-requires : tie.Need-previous-ok-requires
 previous-ok-requires c κs = search needs

@@ -10,7 +10,7 @@ cast-t3 c = search needs
 
 returns : tie.Need-returns
 unfolding reportOf
-returns c = refl
+returns c board = refl
 
 pub refused-spec : {M : Type 1} → statement M
 refused-spec = tie.close (tie.spec cast-t3 returns)

@@ -21,7 +21,7 @@ rounds-after-requires c κs = search needs
 
 add-later : tie.Need-add-later
 add-later c =
-    let s = c .before .before .before .before .before .before .before in
+    let s = c .before .before .before .before .before .before .before .before in
     omega (arith, mains-few (s .args .board .now) (s .args .self) (s .pre .0), s .pre .1 .0 .more)
 
 later-requires : tie.Need-later-requires
@@ -47,7 +47,7 @@ earliest-requires-2 c κs = search needs
 
 returns : tie.Need-returns
 returns c =
-    let s = c .before .before .before .before .before .before .before .before .before .before .before .before .before .before in
+    let s = c .before .before .before .before .before .before .before .before .before .before .before .before .before .before .before in
     let old = s .args .self in (
       refl,
       stands-after (s .pre .0) (passing-next (s .pre .1 .0)) (record {

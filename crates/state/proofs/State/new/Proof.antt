@@ -17,7 +17,7 @@ returns c = (
     threshold = refl;
     authorizer = refl;
     intent = refl;
-    contests = refl;
+    contests = λ k l. getD-replicate 8 k 0 0 l;
     rounds = λ j l. getD-replicate 16 j 0 0 l;
     ballots = refl;
   }),

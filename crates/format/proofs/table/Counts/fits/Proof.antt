@@ -13,8 +13,8 @@ enum-known-counts c = search needs
 enum-known-counts-2 : tie.Need-enum-known-counts-2
 enum-known-counts-2 c = search needs
 
-one-and-each-requires : tie.Need-one-and-each-requires
-one-and-each-requires c κs = search needs
+set-and-each-requires : tie.Need-set-and-each-requires
+set-and-each-requires c κs = search needs
 
 returns : tie.Need-returns
 unfolding fits
@@ -25,7 +25,7 @@ unfolding fits
 returns-2 c = rw (c .before .before .counts .given .1) (search tests)
 
 returns-3 : tie.Need-returns-3
-returns-3 c = rw (c .before .before .counts2 .given .1) (c .one-and-each .ensures)
+returns-3 c = rw (c .before .before .counts2 .given .1) (c .set-and-each .ensures)
 
 pub fits-spec : {M : Type 1} → statement M
 fits-spec =
@@ -33,7 +33,7 @@ fits-spec =
     (tie.spec
     enum-known-counts
     enum-known-counts-2
-    one-and-each-requires
+    set-and-each-requires
     returns
     returns-2
     returns-3)

@@ -1,0 +1,219 @@
+-- What check 6 says of each type, and check 13 of thresholds, rounds, sessions, confirmations and the contests of a ballot, for sets of any number
+-- of words. Paper: "Item types", "Content", request (v). Assumes nothing.
+use Prim.Native.Nat.{ℕ, zero, suc, _+_, _*_, _≤_, _<_}
+use native.Mathlib.Nat.{le-refl, not-suc-le-zero}
+use native.Mathlib.Omega.{arith}
+use mathlib.Core.Path.{_≡_, refl, sym}
+use mathlib.Core.Logic.{_≢_, _↔_}
+use mathlib.Core.Bool.{Bool, true, false, and-true, not, _&&_}
+use mathlib.Core.List.{List, [], _∷_, map}
+use lib.ListN.{length, getD, take}
+use lib.Seq.{take-all}
+use lib.Dec.{T, eqb, leb, ltb, eqb→eq}
+use Rattle.model.specs.Lists.{if_then_else_, _⇒_, any, keep, latest}
+use Rattle.model.specs.Words.{codeOf, member, size, allIn}
+use Rattle.model.specs.Format.{Format, secp256r1}
+use Rattle.model.specs.Item.{Item, code, time, word}
+use Rattle.model.specs.Types.{Counts, from_to_, setAndEach, Row, table}
+use Rattle.model.specs.History.{History, Entry, absent, entry, itemNo, first, typed, sessionNumber, sessionContests}
+use Rattle.model.specs.Phase.{sameRound, rounds, isOpen, roundContests, roundStart, roundEnd}
+use Rattle.model.specs.Content.{defines, contestsOk, enables, mayVote, genesisOk, contestOk, thresholdOk, authorizerOk, roundOk, sessionOk, commitmentOk, ballotOk, fingerprintOk, trusteesOk, contentOk, Defined, Enables}
+use Rattle.model.proofs.Tests.{by-test, passes, is-true, is-false, or-right, eq→eqb, and-iff, leb-iff, facts, tests}
+use Rattle.model.proofs.Numbers.{entry-inside, first-found}
+use Rattle.model.proofs.State.{any-first}
+use Rattle.model.proofs.Once.{any-before}
+use Rattle.model.proofs.Sets.{set-all}
+
+-- the counts, row by row: sets of contests grow, in types 6, 16 and 19, and nothing else does
+pub table-counts : (sha256 : List ℕ → List ℕ) (w : ℕ) → map (λ (r : Row). r .counts) (table (secp256r1 sha256 w))
+    ≡ from_to_ 17 18 ∷ from_to_ 0 64 ∷ from_to_ 1 65 ∷ from_to_ 10 10 ∷ from_to_ 9 9 ∷ from_to_ (5 + w) (5 + w) ∷ from_to_ (18 + w) (18 + w)
+    ∷ from_to_ 9 9 ∷ from_to_ 9 9 ∷ setAndEach w 17 ∷ from_to_ 0 0 ∷ from_to_ 0 0 ∷ from_to_ 0 0 ∷ from_to_ 8 8 ∷ setAndEach 1 16
+    ∷ from_to_ 0 0 ∷ from_to_ 8 8 ∷ from_to_ 1 256 ∷ from_to_ 1 256 ∷ []
+unfolding table
+table-counts sha256 w = refl
+
+is-defined : (h : History) (j : ℕ) → T (any (defines j) h) → Defined h j
+is-defined h j t =
+    let n = first (defines j) h in
+    let some : n ≢ 0 = λ q. absurd (rw (any-first (defines j) h, q) at t) in
+    let (kind, number) = simp facts at (first-found (defines j) h (omega arith)) in
+    (n, kind, number)
+
+defined : (h : History) (j : ℕ) → Defined h j → T (any (defines j) h)
+unfolding entry codeOf
+defined h j (zero, kind, number) = absurd (omega arith)
+defined h j (suc s, kind, number) =
+    let (one, all) = entry-inside h (suc s) (omega arith) in
+    rw (take-all (length h) h (le-refl (length h))) at (any-before (defines j) h s (length h) all all (simp facts (kind, number)))
+
+-- "contests not empty and all defined by a type 3 already"
+contests-pass : (h : History) (s : List ℕ) → T (contestsOk h s) ↔ ((1 ≤ size s) × ((j : ℕ) → T (member s j) → Defined h j))
+unfolding contestsOk
+contests-pass h s =
+    let all = set-all s (λ j. any (defines j) h) in (
+      λ t. let (some, in-all) = simp and-iff at t in (omega (arith, tests), λ j m. is-defined h j (all .0 in-all j m)),
+      λ (some, each). simp and-iff ((omega (arith, tests)), all .1 (λ j m. defined h j (each j m))),
+    )
+
+module _ (f : Format) (h : History) (i : Item) where
+  round-content : code i ≡ 6 → contentOk f h i ≡ (leb (word 0 i) 15 && ltb (roundStart i) (roundEnd i) && contestsOk h (roundContests i))
+  unfolding contentOk genesisOk contestOk thresholdOk authorizerOk roundOk sessionOk commitmentOk ballotOk fingerprintOk trusteesOk _⇒_
+  round-content c = rw c (simp and-true)
+
+  pub round-passes : code i ≡ 6 → T (contentOk f h i)
+      ↔ ((word 0 i ≤ 15) × (roundStart i < roundEnd i) × (1 ≤ size (roundContests i)) × ((j : ℕ) → T (member (roundContests i) j) → Defined h j))
+  round-passes c =
+      let contests = contests-pass h (roundContests i) in
+      rw (round-content c) (
+        λ t. let ((n, rising), ok) = simp facts at t in let (some, each) = contests .0 ok in (n, rising, some, each),
+        λ (n, rising, some, each). simp facts ((n, rising), contests .1 (some, each)),
+      )
+
+  session-content : code i ≡ 16 → contentOk f h i ≡ (leb 1 (word 1 i) && contestsOk h (sessionContests i))
+  unfolding contentOk genesisOk contestOk thresholdOk authorizerOk roundOk sessionOk commitmentOk ballotOk fingerprintOk trusteesOk _⇒_
+  session-content c = rw c (simp and-true)
+
+  pub session-passes : code i ≡ 16 → T (contentOk f h i)
+      ↔ ((1 ≤ word 1 i) × (1 ≤ size (sessionContests i)) × ((j : ℕ) → T (member (sessionContests i) j) → Defined h j))
+  session-passes c =
+      let contests = contests-pass h (sessionContests i) in
+      rw (session-content c) (
+        λ t. let (n, ok) = simp facts at t in let (some, each) = contests .0 ok in (n, some, each),
+        λ (n, some, each). simp facts (n, contests .1 (some, each)),
+      )
+
+-- ---- what does not grow: thresholds and trustees
+
+module _ (f : Format) (h : History) (i : Item) where
+  threshold-content : code i ≡ 4 → contentOk f h i ≡ (leb 1 (word 1 i) && leb (word 1 i) (word 0 i) && leb (word 0 i) 32)
+  unfolding contentOk genesisOk contestOk thresholdOk authorizerOk roundOk sessionOk commitmentOk ballotOk fingerprintOk trusteesOk _⇒_
+  threshold-content c = rw c (simp and-true)
+
+  -- 4: 1 ≤ t ≤ m ≤ 32, at either width
+  pub threshold-passes : code i ≡ 4 → T (contentOk f h i) ↔ ((1 ≤ word 1 i) × (word 1 i ≤ word 0 i) × (word 0 i ≤ 32))
+  threshold-passes c =
+      rw (threshold-content c) (
+        λ t. let ((a, b), c) = simp facts at t in (a, b, c),
+        λ (a, b, c). simp facts ((a, b), c),
+      )
+
+  abbrev trusteeSet : List ℕ
+  trusteeSet = word 0 i ∷ []
+
+  abbrev standingThreshold : Item
+  standingThreshold = itemNo h (first (typed 4) h)
+
+  trustees-content : code i ≡ 34 → contentOk f h i ≡ (eqb (length (i .content)) (1 + size trusteeSet * 16)
+      && allIn trusteeSet (λ j. ltb j (word 0 standingThreshold)) && leb (word 1 standingThreshold) (size trusteeSet))
+  unfolding contentOk genesisOk contestOk thresholdOk authorizerOk roundOk sessionOk commitmentOk ballotOk fingerprintOk trusteesOk _⇒_
+  trustees-content c = rw c
+
+  -- 34: one word of trustees at either width
+  pub trustees-pass : code i ≡ 34 → T (contentOk f h i)
+      ↔ ((length (i .content) ≡ 1 + size trusteeSet * 16)
+      × ((j : ℕ) → T (member trusteeSet j) → j < word 0 standingThreshold) × (word 1 standingThreshold ≤ size trusteeSet))
+  trustees-pass c =
+      let all = set-all trusteeSet (λ j. ltb j (word 0 standingThreshold)) in
+      rw (trustees-content c) (
+        λ t. let ((n, below), enough) = simp and-iff at t in (eqb→eq _ _ n, λ j m. leb-iff _ _ .0 (all .0 below j m), leb-iff _ _ .0 enough),
+        λ (n, below, enough). simp and-iff ((eq→eqb _ _ n, all .1 (λ j m. leb-iff _ _ .1 (below j m))), leb-iff _ _ .1 enough),
+      )
+
+-- ---- the rounds in force, by number
+
+module _ {A B : Type 0} (q : A → Bool) (f : A → B) (r : B → B → Bool) (p : B → Bool) (d : A) where
+  -- no later element that is kept replaces element k
+  abbrev Last : List A → ℕ → Type 0
+  Last xs k = (n : ℕ) → k < n → n < length xs → T (q (getD xs n d)) → T (r (f (getD xs k d)) (f (getD xs n d))) → ⊥
+
+  -- element k is kept, passes, and is not replaced
+  abbrev Stays : List A → ℕ → Type 0
+  Stays xs k = (k < length xs) × T (q (getD xs k d)) × T (p (f (getD xs k d))) × Last xs k
+
+  none-kept : (g : B → Bool) (xs : List A) → any g (keep q f xs) ≡ false → (n : ℕ) → n < length xs → T (q (getD xs n d)) → T (g (f (getD xs n d))) → ⊥
+  unfolding any keep if_then_else_
+  none-kept g [] e n l a b = absurd (not-suc-le-zero l)
+  none-kept g (x ∷ xs) e zero l a b = absurd (passes (sym (rw (is-true (q x) a, is-true (g (f x)) b) at e)))
+  none-kept g (x ∷ xs) e (suc n) l a b =
+      by-test (q x)
+      (λ s. by-test (g (f x)) (λ t. absurd (passes (sym (rw (s, t) at e)))) (λ t. none-kept g xs (rw (s, t) at e) n (omega arith) a b))
+      (λ s. none-kept g xs (rw s at e) n (omega arith) a b)
+
+  found : (g : B → Bool) (xs : List A) → T (any g (keep q f xs)) → (n : ℕ) × (n < length xs) × T (q (getD xs n d)) × T (g (f (getD xs n d)))
+  unfolding any keep if_then_else_
+  found g [] t = absurd t
+  found g (x ∷ xs) t =
+      by-test (q x)
+      (λ s. by-test (g (f x))
+      (λ c. (0, omega arith, passes s, passes c))
+      (λ c. let (n, l, a, b) = found g xs (rw (s, c) at t) in (suc n, omega arith, a, b)))
+      (λ s. let (n, l, a, b) = found g xs (rw s at t) in (suc n, omega arith, a, b))
+
+  last-first : (x : A) (xs : List A) → any (r (f x)) (keep q f xs) ≡ false → Last (x ∷ xs) 0
+  last-first x xs e zero l m a b = absurd (not-suc-le-zero l)
+  last-first x xs e (suc n) l m a b = none-kept (r (f x)) xs e n (omega arith) a b
+
+  last-next : (x : A) (xs : List A) (k : ℕ) → Last xs k → Last (x ∷ xs) (suc k)
+  last-next x xs k s zero l m a b = absurd (not-suc-le-zero l)
+  last-next x xs k s (suc n) l m a b = s n (omega arith) (omega arith) a b
+
+  further : (x : A) (xs : List A) → (k : ℕ) × Stays xs k → (k : ℕ) × Stays (x ∷ xs) k
+  further x xs (k, (l, a, b, s)) = (suc k, (omega arith, a, b, last-next x xs k s))
+
+  stays : (xs : List A) → T (any p (latest r (keep q f xs))) → (k : ℕ) × Stays xs k
+  unfolding any keep latest if_then_else_
+  stays [] t = absurd t
+  stays (x ∷ xs) t =
+      by-test (q x)
+      (λ a. by-test (any (r (f x)) (keep q f xs))
+      (λ b. further x xs (stays xs (rw (a, b) at t)))
+      (λ b. by-test (p (f x))
+      (λ c. (0, (omega arith, passes a, passes c, last-first x xs b)))
+      (λ c. further x xs (stays xs (rw (a, b, c) at t)))))
+      (λ a. further x xs (stays xs (rw a at t)))
+
+  standing : (xs : List A) (k : ℕ) → Stays xs k → T (any p (latest r (keep q f xs)))
+  unfolding any keep latest if_then_else_
+  standing [] k (l, a, b, s) = absurd (not-suc-le-zero l)
+  standing (x ∷ xs) zero (l, a, b, s) =
+      let none : any (r (f x)) (keep q f xs) ≡ false =
+      is-false (any (r (f x)) (keep q f xs)) (λ t. let (n, m, c, e) = found (r (f x)) xs t in s (suc n) (omega arith) (omega arith) c e) in
+      rw (is-true (q x) a, none, is-true (p (f x)) b) tt
+  standing (x ∷ xs) (suc k) (l, a, b, s) =
+      let rest = standing xs k (omega arith, a, b, λ n i m c e. s (suc n) (omega arith) (omega arith) c e) in
+      by-test (q x)
+      (λ c. by-test (any (r (f x)) (keep q f xs)) (λ e. rw (c, e) rest) (λ e. rw (c, e) (or-right (p (f x)) _ rest)))
+      (λ c. rw c rest)
+
+not-replaced : (h : History) (t j k : ℕ) → Last (typed 6) (λ e. e .item) sameRound (enables t j) absent h k
+    → (n : ℕ) → suc k < n → code (itemNo h n) ≡ 6 → word 0 (itemNo h n) ≢ word 0 (itemNo h (suc k))
+unfolding entry codeOf
+not-replaced h t j k last zero l c e = absurd (not-suc-le-zero l)
+not-replaced h t j k last (suc n) l c e =
+    let (one, all) = entry-inside h (suc n) (omega arith) in
+    last n (omega arith) (omega arith) (eq→eqb _ 6 c) (eq→eqb _ _ (sym e))
+
+enabled : (h : History) (t j : ℕ) → T (any (enables t j) (rounds h)) → (k : ℕ) × Enables h t j k
+unfolding rounds isOpen entry
+enabled h t j a =
+    let (k, (l, is-round, ok, last)) = stays (typed 6) (λ e. e .item) sameRound (enables t j) absent h a in
+    let ((start, end), has) = simp facts at ok in
+    (suc k, ((eqb→eq _ 6 is-round, not-replaced h t j k last), start, end, has))
+
+enabling : (h : History) (t j k : ℕ) → Enables h t j k → T (any (enables t j) (rounds h))
+unfolding rounds isOpen entry codeOf
+enabling h t j zero ((six, last), start, end, has) = absurd (omega arith)
+enabling h t j (suc k) ((six, last), start, end, has) =
+    let (one, all) = entry-inside h (suc k) (omega arith) in
+    standing (typed 6) (λ e. e .item) sameRound (enables t j) absent h k
+    (omega arith, eq→eqb _ 6 six, simp facts ((start, end), has), λ n l m a b. last (suc n) (omega arith) (eqb→eq _ 6 a) (sym (eqb→eq _ _ b)))
+
+-- "each contest is in the session's set and enabled by an open round"
+pub may-vote : (h : History) (i : Item) (j : ℕ) → T (mayVote h i j)
+    ↔ (T (member (sessionContests (itemNo h (sessionNumber h i))) j) × ((k : ℕ) × Enables h (time i) j k))
+unfolding mayVote
+may-vote h i j =
+    let both = and-iff (member (sessionContests (itemNo h (sessionNumber h i))) j) (any (enables (time i) j) (rounds h)) in (
+      λ t. let (own, open-round) = both .0 t in (own, enabled h (time i) j open-round),
+      λ (own, (k, e)). both .1 (own, enabling h (time i) j k e),
+    )
