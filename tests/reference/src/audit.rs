@@ -52,7 +52,7 @@ pub struct Item {
 /// A round as its latest type 6 has it.
 #[derive(Clone, Copy, Debug)]
 struct Round {
-    contests: u32,
+    contests: Set,
     start: u64,
     end: u64,
 }
@@ -66,7 +66,7 @@ pub struct Counted {
 }
 
 /// The rules that can be put otherwise: a weak hash shows collisions, and a wrong reading of when a ballot
-/// may be opened or cast, or of the roll, tries the checks.
+/// may be opened or cast, of the roll, or of contest sets, tries the checks.
 #[derive(Clone, Copy)]
 pub struct Rules {
     pub hash: Hash,
@@ -76,10 +76,51 @@ pub struct Rules {
     pub is_good_roll: fn(&[u32]) -> bool,
     /// Whether the roll has what an item of this type with this content needs there.
     pub is_enrolled: fn(roll: &[u32], code: u32, content: &[u32]) -> bool,
+    pub sets: SetRules,
 }
 
 /// As the paper has them.
-pub const RULES: Rules = Rules { hash: sha256, may_open: is_spoiled, may_cast: |_, _| true, is_good_roll, is_enrolled };
+pub const RULES: Rules =
+    Rules { hash: sha256, may_open: is_spoiled, may_cast: |_, _| true, is_good_roll, is_enrolled, sets: SET_RULES };
+
+/// How contest sets are read, and what is read beside them at a place that their width moves.
+#[derive(Clone, Copy)]
+pub struct SetRules {
+    /// The width of a board's sets, from all its words.
+    pub width: fn(board: &[u32]) -> Width,
+    /// Whether all traits in a traits word are known.
+    pub traits_fit: fn(u32) -> bool,
+    /// Whether the table has this content count for a type.
+    pub count_fits: fn(Width, code: u32, n: usize) -> bool,
+    /// How many contest numbers there are.
+    pub contests: fn(Width) -> u32,
+    /// The set of one contest.
+    pub one: fn(Width, u32) -> Set,
+    /// The set in the content of a round, a session or a ballot.
+    pub set: fn(Width, code: u32, content: &[u32]) -> Set,
+    /// Whether a set of a round or a session has a contest, and none but those that are defined.
+    pub is_defined: fn(Set, defined: Set) -> bool,
+    /// The start and end in the content of a round.
+    pub round_times: fn(Width, content: &[u32]) -> (u64, u64),
+    /// How many cryptograms there are to be in a ballot with this content.
+    pub cryptograms: fn(Width, content: &[u32]) -> usize,
+    /// The words of the cryptograms in a ballot's content.
+    pub behind_set: fn(Width, content: &[u32]) -> &[u32],
+}
+
+/// As the paper has them.
+pub const SET_RULES: SetRules = SetRules {
+    width: Width::of,
+    traits_fit: |traits| traits & !WIDE_SETS == 0,
+    count_fits: Width::count_fits,
+    contests: Width::contests,
+    one: |_, number| Set::one(number),
+    set: Width::set,
+    is_defined: |set, defined| !set.is_empty() && set.is_within(defined),
+    round_times: Width::round_times,
+    cryptograms: |width, content| width.set(BALLOT, content).count(),
+    behind_set: |width, content| &content[width.words()..],
+};
 
 /// A voter opening in hand.
 pub struct Opening<'a> {
@@ -97,8 +138,9 @@ pub fn is_spoiled(opening: &Opening) -> bool {
 }
 
 /// What the items passed so far have established. Items are numbered from 1.
-#[derive(Default)]
 pub struct History {
+    /// The width of the board's sets.
+    width: Width,
     items: Vec<Item>,
     /// Item numbers of the main items in order.
     mains: Vec<usize>,
@@ -112,7 +154,7 @@ pub struct History {
     /// Trustees m and threshold t.
     threshold: Option<(u32, u32)>,
     rounds: [Option<Round>; 16],
-    contests: u32,
+    contests: Set,
     intent: bool,
     genesis: bool,
     latest_session: HashMap<u32, usize>,
@@ -120,6 +162,27 @@ pub struct History {
 }
 
 impl History {
+    fn new(width: Width) -> History {
+        History {
+            width,
+            items: Vec::new(),
+            mains: Vec::new(),
+            main_addresses: HashMap::new(),
+            hidden_addresses: HashMap::new(),
+            latest_config: None,
+            administrator: ZEROS,
+            ballot_box: ZEROS,
+            authorizer: None,
+            threshold: None,
+            rounds: [None; 16],
+            contests: Set::EMPTY,
+            intent: false,
+            genesis: false,
+            latest_session: HashMap::new(),
+            counted: Vec::new(),
+        }
+    }
+
     pub fn items(&self) -> usize {
         self.items.len()
     }
@@ -286,7 +349,7 @@ fn walk(rules: Rules, given: Board) -> Result<History, Refusal> {
     if board.is_empty() || kind(board[0]) == CLOSING {
         return Err(Refusal { number: 3, items: 0 });
     }
-    let mut history = History::default();
+    let mut history = History::new((rules.sets.width)(board));
     let mut place = 0;
     loop {
         let items = history.items();
@@ -308,7 +371,7 @@ fn walk(rules: Rules, given: Board) -> Result<History, Refusal> {
         if kind_of(code(head)) != Some(kind(head)) {
             return refuse(5);
         }
-        if !count_fits(code(head), count(head)) {
+        if !(rules.sets.count_fits)(history.width, code(head), count(head)) {
             return refuse(6);
         }
         let length = count(head) + FRAME;
@@ -321,7 +384,8 @@ fn walk(rules: Rules, given: Board) -> Result<History, Refusal> {
             Ok(found) => found,
             Err(number) => return refuse(number),
         };
-        append(&mut history, board, &item, parent, session);
+        append(&mut history, &item, parent, session);
+        establish(rules.sets, &mut history, board, &item);
         place += length;
     }
 }
@@ -364,7 +428,7 @@ fn check(rules: Rules, given: Board, history: &History, item: &Candidate) -> Res
     if is_second(history, item, parent) {
         return Err(12);
     }
-    if !content_fits(rules.hash, history, board, item, session) {
+    if !content_fits(rules, history, board, item, session) {
         return Err(13);
     }
     // 21: the roll.
@@ -461,35 +525,29 @@ fn is_second(history: &History, item: &Candidate, parent: usize) -> bool {
 }
 
 /// 13: the content.
-fn content_fits(hash: Hash, history: &History, board: &[u32], item: &Candidate, session: Option<usize>) -> bool {
-    let words = item.content;
-    let contests_fit = |set: u32| set != 0 && set & !history.contests == 0;
+fn content_fits(rules: Rules, history: &History, board: &[u32], item: &Candidate, session: Option<usize>) -> bool {
+    let (sets, width, words) = (rules.sets, history.width, item.content);
+    let contests_fit = || (sets.is_defined)((sets.set)(width, item.code, words), history.contests);
     match item.code {
-        CONTEST => words[0] <= 31,
+        // Only the first genesis comes this far, so that its traits word is the board's.
+        GENESIS => words.get(PLAIN_GENESIS).is_none_or(|&traits| (sets.traits_fit)(traits)),
+        CONTEST => words[0] < (sets.contests)(width),
         THRESHOLD => {
             let (m, t) = (words[0], words[1]);
             1 <= t && t <= m && m <= 32
         }
         AUTHORIZER => words[0] == 1 || words[0] == 2,
-        ROUND => words[0] <= 15 && contests_fit(words[1]) && time(words, 2) < time(words, 4),
-        SESSION => words[1] >= 1 && contests_fit(words[18]),
+        ROUND => {
+            let (start, end) = (sets.round_times)(width, words);
+            words[0] <= 15 && contests_fit() && start < end
+        }
+        SESSION => words[1] >= 1 && contests_fit(),
         VOTER_COMMITMENT | SERVER_COMMITMENT => words[8] & 0x00ff_ffff == 0,
         BALLOT => {
-            let set = words[0];
-            if words.len() != 1 + CRYPTOGRAM * set.count_ones() as usize {
-                return false;
-            }
-            let own = session.expect("a ballot has a session");
-            let allowed = content(board, history.item(own))[18];
-            let mut enabled = 0;
-            for round in history.open_rounds(item.time) {
-                enabled |= round.contests;
-            }
-            set & !allowed == 0
-                && set & !enabled == 0
-                && words[1..].chunks(CRYPTOGRAM).all(|c| c[CRYPTOGRAM - 1] & 0xffff == 0)
+            let own = history.item(session.expect("a ballot has a session"));
+            ballot_fits(sets, history, item, content(board, own))
         }
-        EXTRACTION => words == fingerprint(hash, history, board),
+        EXTRACTION => words == fingerprint(rules.hash, history, board),
         CONFIRMATION => {
             let set = words[0];
             let (m, t) = history.threshold.expect("an extraction follows a threshold");
@@ -498,6 +556,25 @@ fn content_fits(hash: Hash, history: &History, board: &[u32], item: &Candidate, 
         }
         _ => true,
     }
+}
+
+/// The content of a ballot in a session with this content: as many cryptograms as contests, each contest in the
+/// session's set and enabled by an open round.
+fn ballot_fits(sets: SetRules, history: &History, item: &Candidate, session: &[u32]) -> bool {
+    let (width, words) = (history.width, item.content);
+    if words.len() != width.words() + CRYPTOGRAM * (sets.cryptograms)(width, words) {
+        return false;
+    }
+    let contests = (sets.set)(width, BALLOT, words);
+    let allowed = (sets.set)(width, SESSION, session);
+    let mut enabled = Set::EMPTY;
+    for round in history.open_rounds(item.time) {
+        enabled |= round.contests;
+    }
+    let cryptograms = (sets.behind_set)(width, words);
+    contests.is_within(allowed)
+        && contests.is_within(enabled)
+        && cryptograms.chunks_exact(CRYPTOGRAM).all(|c| c[CRYPTOGRAM - 1] & 0xffff == 0)
 }
 
 /// 21: a session names a voter of the roll, with that voter's weight.
@@ -543,14 +620,13 @@ fn content<'a>(board: &'a [u32], item: &Item) -> &'a [u32] {
     &board[item.place + 1..item.place + 1 + item.count]
 }
 
-/// The history with an item that has passed.
-fn append(history: &mut History, board: &[u32], item: &Candidate, parent: usize, session: Option<usize>) {
+/// Puts an item that has passed behind the history.
+fn append(history: &mut History, item: &Candidate, parent: usize, session: Option<usize>) {
     let number = history.items() + 1;
-    let words = item.content;
     history.items.push(Item {
         code: item.code,
         place: item.place,
-        count: words.len(),
+        count: item.content.len(),
         parent,
         session,
         mains_before: history.mains(),
@@ -570,27 +646,34 @@ fn append(history: &mut History, board: &[u32], item: &Candidate, parent: usize,
     if is_config(item.code) {
         history.latest_config = Some(number);
     }
+}
+
+/// What an item establishes by its type; it is the last of the history.
+fn establish(sets: SetRules, history: &mut History, board: &[u32], item: &Candidate) {
+    let (number, width, words) = (history.items(), history.width, item.content);
     match item.code {
         GENESIS => {
             history.genesis = true;
             history.administrator = eight(words, 1);
             history.ballot_box = eight(words, 9);
         }
-        CONTEST => history.contests |= 1 << words[0],
+        CONTEST => history.contests |= (sets.one)(width, words[0]),
         THRESHOLD => history.threshold = Some((words[0], words[1])),
         AUTHORIZER => history.authorizer = Some(eight(words, 1)),
         ROUND => {
-            history.rounds[words[0] as usize] =
-                Some(Round { contests: words[1], start: time(words, 2), end: time(words, 4) });
+            let (start, end) = (sets.round_times)(width, words);
+            let contests = (sets.set)(width, ROUND, words);
+            history.rounds[words[0] as usize] = Some(Round { contests, start, end });
         }
         SESSION => {
             history.latest_session.insert(words[0], number);
         }
         CAST => {
+            let Item { parent: ballot, session, .. } = *history.item(number);
             let own = content(board, history.item(session.expect("a cast has a session")));
             let (voter, weight) = (own[0], own[1]);
             history.counted.retain(|c| c.voter != voter);
-            history.counted.push(Counted { ballot: parent, voter, weight });
+            history.counted.push(Counted { ballot, voter, weight });
         }
         INTENT => history.intent = true,
         _ => {}

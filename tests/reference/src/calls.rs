@@ -365,7 +365,7 @@ impl<'a> GuardedRoll<'a> {
 /// session is on the roll, the last one's: with them the roll is bad. Zeros where there is no session: they may
 /// change nothing.
 fn guard_pair(board: Board) -> [u32; ROLL_ROW] {
-    let is_session = |&place: &usize| board.words[place] == head(MAIN, SESSION, 19) && place + 2 < board.words.len();
+    let is_session = |&place: &usize| code(board.words[place]) == SESSION && place + 2 < board.words.len();
     let mut sessions = places(board.words).filter(is_session).map(|p| [board.words[p + 1], board.words[p + 2]]);
     let last = sessions.clone().last();
     let missing = sessions.find(|&[voter, weight]| !is_on_roll(board.roll, voter, weight));

@@ -3,7 +3,7 @@
 
 use crate::audit::{audit, refused, Board, Report};
 use crate::calls::{call_ancestry, call_audit, call_compare, Tally};
-use crate::crowded::{crowded, most_ballots, Fate};
+use crate::crowded::{all_contests, crowded_with, most_ballots, Fate};
 use crate::damage::{damage_plan, damage_roll, damage_words, no_board};
 use crate::faults::{bad_roll, faults, rank, spoil_more, Fault, Faulty};
 use crate::format::*;
@@ -11,10 +11,10 @@ use crate::hidden::remove_hidden;
 use crate::interface::*;
 use crate::plan::{Laid, Plan, Spec};
 use crate::random::Random;
-use crate::reached::{Ballots, Roll, ROLLS_WANTED, WANTED};
+use crate::reached::{Ballots, Roll, Sets, ROLLS_WANTED, SETS_WANTED, WANTED};
 use crate::roll::{any_roll, full_around, roll_of, voters_of};
 use crate::sha256::sha256;
-use crate::sound::{any_shape, make, Expected, Made, Shape};
+use crate::sound::{any_shape, make, make_with, many_contests, Expected, Made, Shape, Traits};
 use crate::stand_in::{BALLOTS_NEED_BEFORE, INDEX_NEED_BEFORE};
 use crate::told::{check_told, PROPERTIES};
 
@@ -70,10 +70,21 @@ pub enum Group {
     Full,
     /// As many ballots as there can be, closed, open or opened by turns.
     Ballots,
+    /// Many contests, up to 256.
+    Contests,
 }
 
-pub const GROUPS: [Group; 8] =
-    [Group::Sound, Group::Faults, Group::Order, Group::Rules, Group::Words, Group::Long, Group::Full, Group::Ballots];
+pub const GROUPS: [Group; 9] = [
+    Group::Sound,
+    Group::Faults,
+    Group::Order,
+    Group::Rules,
+    Group::Words,
+    Group::Long,
+    Group::Full,
+    Group::Ballots,
+    Group::Contests,
+];
 
 pub fn group_named(name: &str) -> Option<Group> {
     GROUPS.into_iter().find(|g| format!("{g:?}").eq_ignore_ascii_case(name))
@@ -95,6 +106,12 @@ impl Makers {
     pub fn fault(&self, seed: u64) -> &Fault {
         &self.faults[seed as usize % self.faults.len()]
     }
+
+    /// The width of the board that it is put into: both by turns, where both have a place for it.
+    pub fn width(&self, seed: u64) -> Width {
+        let turn = seed as usize / self.faults.len();
+        self.fault(seed).width.unwrap_or([Width::Narrow, Width::Wide][turn % 2])
+    }
 }
 
 fn sound_case(name: String, made: &Made, random: &mut Random) -> Case {
@@ -107,9 +124,13 @@ fn sound_case(name: String, made: &Made, random: &mut Random) -> Case {
 }
 
 /// A sound board that shares main items with this one: a shorter one, one with other hidden
-/// tracks or signatures, or one that goes another way from some item on. Its roll may be another, or bad.
+/// tracks or signatures, or one that goes another way from some item on. Its roll may be another, or bad. At times
+/// it is the beginning of a board with other traits.
 fn sibling(made: &Made, random: &mut Random) -> Plan {
     let mut plan = made.plan.clone();
+    if random.chance(10) {
+        give_other_traits(&mut plan, random);
+    }
     if random.chance(40) {
         plan.items.truncate(random.between(1, made.plan.items.len()));
     }
@@ -136,16 +157,34 @@ fn sibling(made: &Made, random: &mut Random) -> Plan {
     plan
 }
 
-fn board_for_faults(random: &mut Random) -> Made {
+/// Other traits for a board, which then ends before its first contest set.
+fn give_other_traits(plan: &mut Plan, random: &mut Random) {
+    let first_set = plan.items.iter().position(|s| s.code == ROUND).unwrap_or(plan.items.len());
+    plan.items.truncate(first_set);
+    plan.items[0].content.truncate(PLAIN_GENESIS);
+    plan.items[0].content.extend(random.pick(&Traits::ALL).word());
+    if plan.width() == Width::Narrow {
+        let is_wide = |s: &Spec| s.code == CONTEST && s.content[0] >= Width::Narrow.contests();
+        let end = plan.items.iter().position(is_wide).unwrap_or(first_set);
+        plan.items.truncate(end);
+    }
+}
+
+/// A sound board to put a fault into; with these traits, or any.
+fn board_for_faults(random: &mut Random, traits: Option<Traits>) -> Made {
+    let traits = traits.unwrap_or_else(|| Traits::any(random));
+    if traits == Traits::Wide && random.chance(2) {
+        return board_of_many(random);
+    }
     let most = *random.pick(&[20, 60, 120, 120]);
     let mut shape = any_shape(random, most);
     shape.items = shape.items.max(most / 2);
-    any_board(random, shape)
+    any_board(random, shape, traits)
 }
 
 /// A sound board of this shape, at times with a voter whose number is at an end.
-fn any_board(random: &mut Random, shape: Shape) -> Made {
-    let mut made = make(random, sha256, shape);
+fn any_board(random: &mut Random, shape: Shape, traits: Traits) -> Made {
+    let mut made = make_with(random, sha256, shape, traits);
     let voters: Vec<u32> = voters_of(&made.plan.items).into_keys().collect();
     if !voters.is_empty() && random.chance(25) {
         let ends = [0, 1, 0x7fff_ffff, 0x8000_0000, u32::MAX - 1, u32::MAX];
@@ -164,7 +203,7 @@ fn case_name(group: Group, seed: u64, what: &str) -> String {
 
 /// The numbers that a case is made from.
 fn seeded(group: Group, seed: u64) -> Random {
-    Random::new(seed.wrapping_mul(8).wrapping_add(group as u64))
+    Random::new(seed.wrapping_mul(GROUPS.len() as u64).wrapping_add(group as u64))
 }
 
 /// The case of a group and seed. The same seed gives the same case.
@@ -174,49 +213,104 @@ pub fn case(makers: &Makers, group: Group, seed: u64) -> Case {
     match group {
         Group::Sound => {
             let shape = any_shape(random, *[15, 60, 150].get(seed as usize % 3).unwrap_or(&60));
-            let made = any_board(random, shape);
+            let traits = Traits::any(random);
+            let made = any_board(random, shape, traits);
             sound_case(name("sound"), &made, random)
         }
         Group::Faults => case_with_fault(makers, seed).0,
-        Group::Order => loop {
-            let fault = random.pick(&makers.faults);
-            let made = board_for_faults(random);
-            let Some(mut faulty) = fault.apply(&made, random) else { continue };
-            let Some(second) = spoil_more(&mut faulty, random) else { continue };
-            let first = if rank(second) < rank(faulty.number) { second } else { faulty.number };
-            let what = format!("{} with {second}", fault.reason);
-            // A bad roll is seen before any item.
-            let known = Known::Refused(first, if first == 20 { 0 } else { faulty.items });
-            return faulty_case(name(&what), &made, &faulty.plan, known, random);
-        },
+        Group::Order => order_case(makers, &name, random),
         Group::Rules => {
-            let made = board_for_faults(random);
+            let made = board_for_faults(random, None);
             let mut plan = made.plan.clone();
             damage_plan(&mut plan, random);
             faulty_case(name("rules"), &made, &plan, Known::Nothing, random)
         }
-        Group::Words => {
-            let made = board_for_faults(random);
-            let mut case = faulty_case(name("words"), &made, &made.plan, Known::Nothing, random);
-            if random.chance(2) {
-                oversize(&mut case, 3, random);
-            } else if random.chance(15) {
-                (case.words, case.verdicts, case.roll) = no_board(random);
-            } else {
-                let mut laid = made.plan.lay(sha256);
-                damage_words(&mut laid, random);
-                case.replace(laid);
-            }
-            case
-        }
+        Group::Words => words_case(&name, random),
         Group::Long => long_case(&name, seed, random),
         Group::Full => full_case(makers, &name, seed, random),
         Group::Ballots => {
             let fate = [Fate::Closed, Fate::Open, Fate::Opened][seed as usize % 3];
-            let made = most_ballots(random, fate);
+            let traits = Traits::ALL[seed as usize / 3 % 3];
+            let made = most_ballots(random, fate, traits);
             sound_case(name(&format!("ballots, {fate:?}").to_lowercase()), &made, random)
         }
+        Group::Contests => contests_case(makers, &name, seed, random),
     }
+}
+
+/// A board with two faults in one item.
+fn order_case(makers: &Makers, name: Name, random: &mut Random) -> Case {
+    loop {
+        let fault = random.pick(&makers.faults);
+        let made = board_for_faults(random, None);
+        let Some(mut faulty) = fault.apply(&made, random) else { continue };
+        let Some(second) = spoil_more(&mut faulty, random) else { continue };
+        let first = if rank(second) < rank(faulty.number) { second } else { faulty.number };
+        let what = format!("{} with {second}", fault.reason);
+        // A bad roll is seen before any item.
+        let known = Known::Refused(first, if first == 20 { 0 } else { faulty.items });
+        return faulty_case(name(&what), &made, &faulty.plan, known, random);
+    }
+}
+
+/// Words that are damaged, too many, or never were a board.
+fn words_case(name: Name, random: &mut Random) -> Case {
+    let made = board_for_faults(random, None);
+    let mut case = faulty_case(name("words"), &made, &made.plan, Known::Nothing, random);
+    if random.chance(2) {
+        oversize(&mut case, 3, random);
+    } else if random.chance(15) {
+        (case.words, case.verdicts, case.roll) = no_board(random);
+    } else {
+        let mut laid = made.plan.lay(sha256);
+        damage_words(&mut laid, random);
+        case.replace(laid);
+    }
+    case
+}
+
+/// A board of many contests: sound, with a fault, damaged, as long as there may be, or with ballots of all contests,
+/// at times as many of them as the word limit allows. All are wide but some of those.
+fn contests_case(makers: &Makers, name: Name, seed: u64, random: &mut Random) -> Case {
+    match seed % 5 {
+        0 => {
+            let voters = *random.pick(&[1, 1, 2, MOST_WIDE_BALLOTS]);
+            let traits = [Traits::Wide, Traits::Unsaid, Traits::Wide, Traits::Zero][seed as usize / 5 % 4];
+            sound_case(name("contests, all on each ballot"), &all_contests(random, voters, traits), random)
+        }
+        1 => {
+            let made = board_of_many(random);
+            sound_case(name("contests"), &made, random)
+        }
+        2 => loop {
+            let made = board_of_many(random);
+            let fault = random.pick(&makers.faults);
+            let Some(faulty) = fault.apply(&made, random).filter(|faulty| faulty.number != 0) else { continue };
+            let known = Known::Refused(faulty.number, faulty.items);
+            let what = format!("contests, {}", fault.reason);
+            return faulty_case(name(&what), &made, &faulty.plan, known, random);
+        },
+        3 => {
+            let made = board_of_many(random);
+            let mut plan = made.plan.clone();
+            damage_plan(&mut plan, random);
+            faulty_case(name("contests, damaged"), &made, &plan, Known::Nothing, random)
+        }
+        _ => {
+            let shape = Shape { words: Some(MAX_WORDS), ..many_contests(random) };
+            let shape = Shape { items: random.between(1_950, MAX_ITEMS), ..shape };
+            let made = make_with(random, sha256, shape, Traits::Wide);
+            sound_case(name("contests, long"), &made, random)
+        }
+    }
+}
+
+/// The ballots of all 256 contests that fit on a board, with an item of each contest.
+const MOST_WIDE_BALLOTS: usize = 54;
+
+fn board_of_many(random: &mut Random) -> Made {
+    let shape = many_contests(random);
+    make_with(random, sha256, shape, Traits::Wide)
 }
 
 /// The case of a seed in the group of faults, and the plan that it was laid out from.
@@ -224,12 +318,16 @@ pub fn case_with_fault(makers: &Makers, seed: u64) -> (Case, Faulty) {
     let random = &mut seeded(Group::Faults, seed);
     let fault = makers.fault(seed);
     loop {
-        let made = board_for_faults(random);
+        let traits = Traits::of_width(makers.width(seed), random);
+        let made = match fault.all_contests {
+            true => all_contests(random, 1, traits),
+            false => board_for_faults(random, Some(traits)),
+        };
         if let Some(faulty) = fault.apply(&made, random) {
             let name = case_name(Group::Faults, seed, &fault.reason);
             let case = match faulty.number {
                 // Another roll, and the board is sound still.
-                0 => sound_case(name, &Made { plan: faulty.plan.clone(), expected: made.expected }, random),
+                0 => sound_case(name, &Made { plan: faulty.plan.clone(), ..made }, random),
                 number => faulty_case(name, &made, &faulty.plan, Known::Refused(number, faulty.items), random),
             };
             return (case, faulty);
@@ -265,7 +363,8 @@ pub fn long_shape(which: u64, random: &mut Random) -> Shape {
 
 fn long_case(name: Name, seed: u64, random: &mut Random) -> Case {
     let shape = long_shape(seed, random);
-    let made = make(random, sha256, shape);
+    let traits = Traits::any(random);
+    let made = make_with(random, sha256, shape, traits);
     let mut case = sound_case(name("long, sound"), &made, random);
     let full = made.plan.items.len() == MAX_ITEMS;
     match seed / 4 % 6 {
@@ -352,7 +451,8 @@ fn full_case(makers: &Makers, name: Name, seed: u64, random: &mut Random) -> Cas
 
 /// A board of so many items in which so many voters cast, each counted once.
 fn full_board(items: usize, voters: usize, extraction: bool, random: &mut Random) -> Made {
-    let made = crowded(random, Shape { items, words: None, long: 20, voters, extraction });
+    let traits = Traits::any(random);
+    let made = crowded_with(random, Shape { items, words: None, long: 20, voters, extraction }, traits);
     assert_eq!(made.expected.ballots.len(), voters, "each voter counts once");
     made
 }
@@ -501,8 +601,8 @@ fn turn_weight_bit(case: &mut Case, random: &mut Random) {
 
 // ---- the reference against what is known ----
 
-/// Audits a case with the reference and holds the answer against the making. Gives the number.
-pub fn check_known(case: &Case) -> Result<u32, String> {
+/// Audits a case with the reference and holds the answer against the making. Gives the number and the items.
+pub fn check_known(case: &Case) -> Result<(u32, usize), String> {
     if matches!(case.known, Known::Refused(20, _)) {
         // A short table is seen before a bad roll.
         for [index, ballots] in TOO_SHORT {
@@ -539,7 +639,7 @@ pub fn check_full(case: &Case) -> Result<bool, String> {
 }
 
 /// The same with tables of these lengths, against what is known of the case with them.
-fn check_known_with(case: &Case, index_len: usize, ballots_len: usize, known: &Known) -> Result<u32, String> {
+fn check_known_with(case: &Case, index_len: usize, ballots_len: usize, known: &Known) -> Result<(u32, usize), String> {
     let audited = Audited::new(case, index_len, ballots_len);
     let held = match known {
         Known::Nothing => Ok(()),
@@ -551,7 +651,7 @@ fn check_known_with(case: &Case, index_len: usize, ballots_len: usize, known: &K
         _ => Ok(()),
     };
     held.and_then(|()| rows()).map_err(|message| format!("{}: {message}", case.name))?;
-    Ok(audited.report.number)
+    Ok((audited.report.number, audited.report.items as usize))
 }
 
 /// What the tables hold in every word before an audit.
@@ -638,6 +738,12 @@ pub fn shown(case: &Case) -> [bool; WANTED.len()] {
 pub fn shown_of_roll(case: &Case, number: u32) -> [bool; ROLLS_WANTED.len()] {
     let roll = Roll::new(&case.words, &case.roll, number);
     ROLLS_WANTED.map(|(_, shows)| shows(&roll))
+}
+
+/// Which of what is wanted of traits and widths a case shows, of whichever board.
+pub fn shown_of_sets(case: &Case, number: u32, items: usize) -> [bool; SETS_WANTED.len()] {
+    let sets = Sets::new(&case.words, number, items, case.other.board());
+    SETS_WANTED.map(|(_, shows)| shows(&sets))
 }
 
 // ---- an implementation against the reference ----

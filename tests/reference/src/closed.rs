@@ -8,7 +8,7 @@ use std::collections::HashMap;
 const CLOSERS: [u32; 2] = [CAST, SPOIL];
 
 /// The numbers of each cast and spoil, and of its ballot.
-fn closers(told: &Told) -> impl Iterator<Item = (usize, usize)> + '_ {
+fn closers<'a>(told: &'a Told<'a>) -> impl Iterator<Item = (usize, usize)> + 'a {
     told.of(&CLOSERS).map(|number| (number, told.parent(number)))
 }
 

@@ -5,7 +5,7 @@ use crate::compare::{compare_with, Comparison, Tables};
 use crate::format::*;
 use crate::plan::{Laid, Plan};
 use crate::random::Random;
-use crate::sound::{any_shape, make, Made};
+use crate::sound::{any_shape, make_with, Made, Traits};
 use crate::told::check_told;
 
 /// A hash of 13 bits. Zero is no value of it, so that no item has the address zeros.
@@ -46,7 +46,8 @@ fn compare_laid(kept: &Laid, later: &Laid, main_number: usize) -> Comparison {
 fn accepted(random: &mut Random) -> (Made, Laid) {
     loop {
         let shape = any_shape(random, 40);
-        let made = make(random, weak_hash, shape);
+        let traits = Traits::any(random);
+        let made = make_with(random, weak_hash, shape, traits);
         let laid = made.plan.lay(weak_hash);
         if run(&laid).0 == 0 {
             return (made, laid);
@@ -54,18 +55,17 @@ fn accepted(random: &mut Random) -> (Made, Laid) {
     }
 }
 
-/// Changes the last content word of the item at a position until its address is `address`.
-fn forge(plan: &mut Plan, at: usize, address: [u32; 8], random: &mut Random) -> Option<Laid> {
+/// Changes a content word of the item at a position until its address is `address`.
+fn forge(plan: &mut Plan, at: usize, word_at: usize, address: [u32; 8], random: &mut Random) -> Option<Laid> {
     let laid = plan.lay(weak_hash);
     let place = laid.places[at];
-    let last = plan.items[at].content.len() - 1;
-    let original = plan.items[at].content[last];
-    let mut hashed = laid.words[place..place + last + 1 + HASHED_FRAME].to_vec();
+    let content = &mut plan.items[at].content;
+    let mut hashed = laid.words[place..place + content.len() + HASHED_FRAME].to_vec();
     for _ in 0..100_000 {
         let word = random.word();
-        hashed[1 + last] = word;
-        if word != original && weak_hash(&hashed) == address {
-            plan.items[at].content[last] = word;
+        hashed[1 + word_at] = word;
+        if word != content[word_at] && weak_hash(&hashed) == address {
+            content[word_at] = word;
             return Some(plan.lay(weak_hash));
         }
     }
@@ -107,6 +107,8 @@ pub struct Seen {
     pub same: usize,
     pub collision: usize,
     pub uneven: usize,
+    /// Collisions of a narrow board and a wide one.
+    pub across: usize,
 }
 
 /// One pair of boards with a forged item, compared at every main item.
@@ -131,7 +133,8 @@ pub fn check(seed: u64, seen: &mut Seen) -> Result<(), String> {
         } else {
             at
         };
-        let Some(forged) = forge(&mut later_plan, position, kept.addresses[at], random) else { return Ok(()) };
+        let last = later_plan.items[position].content.len() - 1;
+        let Some(forged) = forge(&mut later_plan, position, last, kept.addresses[at], random) else { return Ok(()) };
         later = forged;
     }
     let (number, index, ballots) = run(&later);
@@ -141,12 +144,51 @@ pub fn check(seed: u64, seen: &mut Seen) -> Result<(), String> {
     // Also where two ballots have one address.
     check_told(&later.words, &later.roll, &index, &ballots)
         .map_err(|message| format!("collision seed {seed}: {message}"))?;
-    let (kept_mains, later_mains) = (main_words(&kept, &made.plan), main_words(&later, &later_plan));
+    let boards = [(&kept, &made.plan), (&later, &later_plan)];
+    compare_at_each(boards, seen).map_err(|message| format!("collision seed {seed}, {message}"))
+}
+
+/// A narrow board and a wide one with one address of the genesis, and the same items behind it, none of which has a
+/// contest set: at every main number they are apart, or their collision is the genesis.
+pub fn check_across(seed: u64, seen: &mut Seen) -> Result<(), String> {
+    let random = &mut Random::new(seed);
+    let (made, _) = accepted(random);
+    let has_set = |code: u32| matches!(code, ROUND | SESSION | INTENT);
+    let end = made.plan.items.iter().position(|s| has_set(s.code)).unwrap_or(made.plan.items.len());
+    let mut narrow = made.plan.clone();
+    narrow.items.truncate(end);
+    for contest in narrow.items.iter_mut().filter(|s| s.code == CONTEST) {
+        contest.content[0] %= Width::Narrow.contests();
+    }
+    narrow.items[0].content.truncate(PLAIN_GENESIS);
+    let mut wide = narrow.clone();
+    wide.items[0].content.push(WIDE_SETS);
+    narrow.items[0].content.extend(*random.pick(&[None, Some(0)]));
+    let kept = narrow.lay(weak_hash);
+    // The election number is not looked at.
+    let Some(later) = forge(&mut wide, 0, 0, kept.addresses[0], random) else { return Ok(()) };
+    if run(&kept).0 != 0 || run(&later).0 != 0 {
+        return Ok(());
+    }
+    let mut boards = [(&kept, &narrow), (&later, &wide)];
+    if random.chance(50) {
+        boards.reverse();
+    }
+    let before = seen.collision;
+    compare_at_each(boards, seen).map_err(|message| format!("collision across widths, seed {seed}, {message}"))?;
+    seen.across += seen.collision - before;
+    Ok(())
+}
+
+/// Compares a kept board with a later one at every main number, and holds the answers to demand 3.
+fn compare_at_each(boards: [(&Laid, &Plan); 2], seen: &mut Seen) -> Result<(), String> {
+    let [(kept, _), (later, _)] = boards;
+    let [kept_mains, later_mains] = boards.map(|(laid, plan)| main_words(laid, plan));
     for b in 1..=later_mains.len() {
         let expected = judge(&kept_mains, &later_mains, b);
-        let given = compare_laid(&kept, &later, b);
+        let given = compare_laid(kept, later, b);
         if given != expected {
-            return Err(format!("collision seed {seed}, main {b}: expected {expected:?}, given {given:?}"));
+            return Err(format!("main {b}: expected {expected:?}, given {given:?}"));
         }
         match given {
             Comparison::Apart => seen.apart += 1,
@@ -155,7 +197,7 @@ pub fn check(seed: u64, seen: &mut Seen) -> Result<(), String> {
                 seen.collision += 1;
                 seen.uneven += usize::from(kept != later);
             }
-            Comparison::Refused { .. } => return Err(format!("collision seed {seed}: refused")),
+            Comparison::Refused { .. } => return Err("refused".to_string()),
         }
     }
     Ok(())

@@ -5,7 +5,7 @@
 use crate::format::*;
 use crate::random::Random;
 use crate::sha256::sha256;
-use crate::sound::{Made, Maker, Shape};
+use crate::sound::{Made, Maker, Shape, Traits};
 
 /// The types of the items that a counted ballot takes, in order.
 const WHOLE: [u32; 5] = [SESSION, VOTER_COMMITMENT, SERVER_COMMITMENT, BALLOT, CAST];
@@ -63,7 +63,12 @@ impl Weights {
 /// A board in which so many voters cast as the shape says. Items that are left over go to
 /// voters who cast again, or to other things that voters do.
 pub fn crowded(random: &mut Random, shape: Shape) -> Made {
-    let mut maker = Maker::new(random, sha256, shape);
+    crowded_with(random, shape, Traits::Unsaid)
+}
+
+/// The same with these traits.
+pub fn crowded_with(random: &mut Random, shape: Shape, traits: Traits) -> Made {
+    let mut maker = Maker::new(random, sha256, shape, traits);
     maker.genesis();
     add_config(&mut maker);
     let steps = steps(shape, maker.random);
@@ -92,9 +97,9 @@ pub enum Fate {
 }
 
 /// A board of 2,048 items with as many ballots of this fate as there can be, all in one session.
-pub fn most_ballots(random: &mut Random, fate: Fate) -> Made {
+pub fn most_ballots(random: &mut Random, fate: Fate, traits: Traits) -> Made {
     let shape = Shape { items: MAX_ITEMS, words: None, long: 20, voters: 1, extraction: false };
-    let mut maker = Maker::new(random, sha256, shape);
+    let mut maker = Maker::new(random, sha256, shape, traits);
     maker.genesis();
     add_config(&mut maker);
     let mut lanes = ballot_lanes(fate, maker.random);
@@ -110,6 +115,45 @@ pub fn most_ballots(random: &mut Random, fate: Fate) -> Made {
     maker.counted = last_casts(&casts);
     assert_eq!(maker.items.len(), MAX_ITEMS, "the items add up");
     maker.finish()
+}
+
+/// A board with all contests that its width has, and a ballot of all of them for each voter, which is cast. The
+/// rounds enable some of the contests each, and all together.
+pub fn all_contests(random: &mut Random, voters: usize, traits: Traits) -> Made {
+    let steps: Vec<Step> = (0..voters).flat_map(|who| WHOLE.map(|code| (who, code))).collect();
+    let shape = Shape { items: 0, words: None, long: 0, voters, extraction: false };
+    let mut maker = Maker::new(random, sha256, shape, traits);
+    maker.genesis();
+    maker.add_threshold();
+    maker.add_authorizer();
+    maker.add_all_contests();
+    let times = times(&mut maker, steps.len());
+    let all = maker.contests;
+    for part in parts(all, maker.random) {
+        maker.contests = part;
+        add_round(&mut maker, times[0], times[times.len() - 1]);
+    }
+    maker.contests = all;
+    let mut voters: Vec<Voter> = (0..voters as u32).map(Voter::new).collect();
+    let casts = add_votes(&mut maker, &mut voters, Weights::Mixed, &steps, &times);
+    maker.counted = last_casts(&casts);
+    maker.intent();
+    maker.extraction();
+    maker.finish()
+}
+
+/// All contests in one round, those of each word in one of their own, or any that together are all.
+fn parts(all: Set, random: &mut Random) -> Vec<Set> {
+    let word = |at: u32| all.numbers().filter(|number| number / 32 == at).fold(Set::EMPTY, |set, n| set | Set::one(n));
+    match random.below(3) {
+        0 => vec![all],
+        1 => (0..8).map(word).filter(|part| !part.is_empty()).collect(),
+        _ => {
+            let some = random.contests(all);
+            let rest = all.minus(some);
+            vec![some, if rest.is_empty() { all } else { rest }]
+        }
+    }
 }
 
 /// A lane for each ballot that there is room for behind the config and a session. What room is left
@@ -266,8 +310,8 @@ fn times(maker: &mut Maker, count: usize) -> Vec<u64> {
 fn add_round(maker: &mut Maker, first: u64, last: u64) {
     let start = *maker.random.pick(&[first, 0]);
     let end = *maker.random.pick(&[last + 1, u64::MAX]);
-    let number = maker.random.below(16) as u32;
-    let content = vec![number, maker.contests, (start >> 32) as u32, start as u32, (end >> 32) as u32, end as u32];
+    let number = maker.new_round_number();
+    let content = round_content(maker.width, number, maker.contests, start, end);
     maker.add(ROUND, maker.config, content, maker.now, maker.administrator);
 }
 
@@ -292,12 +336,7 @@ fn add_step(maker: &mut Maker, voter: &mut Voter, code: u32, time: u64, weights:
     let content = match code {
         SESSION => new_session(maker, voter, weights),
         VOTER_COMMITMENT | SERVER_COMMITMENT => maker.commitment(),
-        BALLOT => {
-            let mut content = vec![maker.contests];
-            content.extend(maker.random.words(CRYPTOGRAM - 1));
-            content.push(maker.random.word() & 0xffff_0000);
-            content
-        }
+        BALLOT => maker.ballot_content(maker.contests),
         VERIFIER => maker.random.words(8),
         VOTER_OPENING | SERVER_OPENING => maker.random.words(1),
         _ => Vec::new(),
@@ -330,6 +369,6 @@ fn new_session(maker: &mut Maker, voter: &mut Voter, weights: Weights) -> Vec<u3
     let mut content = vec![voter.number, voter.weight];
     content.extend(voter.key);
     content.extend(maker.random.eight());
-    content.push(maker.contests);
+    content.extend(maker.contests.words(maker.width));
     content
 }

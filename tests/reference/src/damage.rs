@@ -50,9 +50,10 @@ pub fn damage_plan(plan: &mut Plan, random: &mut Random) {
             5 | 6 if !plan.items[at].content.is_empty() => {
                 let content = &mut plan.items[at].content;
                 let word = random.below(content.len());
-                content[word] = match random.below(4) {
+                content[word] = match random.below(6) {
                     0 => random.word(),
                     1 => random.below(35) as u32,
+                    2 => random.below(260) as u32,
                     _ => content[word] ^ 1 << random.below(32),
                 };
             }
@@ -74,10 +75,18 @@ pub fn damage_plan(plan: &mut Plan, random: &mut Random) {
                 let length = random.below(70);
                 plan.items[at].content.resize(length, 0x0101_0000);
             }
+            13 if random.chance(40) => damage_traits(&mut plan.items[0].content, random),
             13 => plan.closing = Some(Some(CLOSING << 28 | random.below(count + 2) as u32)),
             _ => damage_roll(&mut plan.roll, random),
         }
     }
+}
+
+/// Another traits word for a genesis, or none.
+fn damage_traits(genesis: &mut Vec<u32>, random: &mut Random) {
+    genesis.truncate(PLAIN_GENESIS);
+    let any = random.word();
+    genesis.extend(*random.pick(&[None, Some(0), Some(WIDE_SETS), Some(WIDE_SETS), Some(any)]));
 }
 
 /// A change to a roll: a pair gone, the first moved to the end, two voter numbers exchanged, another weight or
@@ -156,7 +165,11 @@ pub fn no_board(random: &mut Random) -> (Vec<u32>, Vec<u32>, Vec<u32>) {
         }
     }
     if !words.is_empty() && random.chance(50) {
-        words[0] = *random.pick(&[0x1001_0011, 0x1002_0000, 0x1014_0000, 0x2030_0000, 0xf000_0000]);
+        let heads = [0x1001_0011, TRAITS_HEAD, TRAITS_HEAD, 0x1002_0000, 0x1014_0000, 0x2030_0000, 0xf000_0000];
+        words[0] = *random.pick(&heads);
+    }
+    if words.len() > TRAITS_PLACE && random.chance(50) {
+        words[TRAITS_PLACE] = random.below(4) as u32;
     }
     let count = random.below(40);
     let verdicts = random.words(count);

@@ -1,6 +1,7 @@
 //! Faulty boards: a sound board changed in one place, all else kept right, so that the check
 //! in question is the first to fail. Each fault says which refusal it must give, and where. Those of the roll
-//! are in `rolls`, with rolls that are no fault: they give the number 0, and the board is sound still.
+//! are in `rolls`, with rolls that are no fault: they give the number 0, and the board is sound still; those of
+//! traits and of the widths of contest sets are in `widths`.
 
 use crate::format::*;
 use crate::plan::{Address, Link, Plan, Previous, Spec, GOOD};
@@ -10,6 +11,7 @@ use crate::sha256::sha256;
 use crate::sound::{ballot_of, Made};
 
 mod rolls;
+mod widths;
 pub use rolls::bad_roll;
 
 /// The changed board and how many items pass.
@@ -19,6 +21,10 @@ type Change = Option<(Plan, usize)>;
 pub struct Fault {
     pub number: u32,
     pub reason: String,
+    /// Where boards of one width alone have a place for it.
+    pub width: Option<Width>,
+    /// Whether it takes a ballot of all the contests that a board of its width can have.
+    pub all_contests: bool,
     code: u32,
     change: fn(&Made, u32, &mut Random) -> Change,
 }
@@ -32,6 +38,9 @@ pub struct Faulty {
 impl Fault {
     /// The fault done to a board; none where the board has no place for it.
     pub fn apply(&self, made: &Made, random: &mut Random) -> Option<Faulty> {
+        if self.width.is_some_and(|width| width != made.width) {
+            return None;
+        }
         let (plan, items) = (self.change)(made, self.code, random)?;
         Some(Faulty { number: self.number, items, plan })
     }
@@ -80,21 +89,41 @@ fn is_live(made: &Made, session: usize, before: usize) -> bool {
 }
 
 /// The rounds that stand before a position: number, contests, start, end.
-fn rounds(made: &Made, before: usize) -> Vec<(u32, u32, u64, u64)> {
-    let mut standing: Vec<(u32, u32, u64, u64)> = Vec::new();
+fn rounds(made: &Made, before: usize) -> Vec<(u32, Set, u64, u64)> {
+    let mut standing: Vec<(u32, Set, u64, u64)> = Vec::new();
     for s in items(made)[..before].iter().filter(|s| s.code == ROUND) {
         standing.retain(|r| r.0 != s.content[0]);
-        standing.push((s.content[0], s.content[1], time(&s.content, 2), time(&s.content, 4)));
+        let (start, end) = made.width.round_times(&s.content);
+        standing.push((s.content[0], made.width.set(ROUND, &s.content), start, end));
     }
     standing
 }
 
-fn open(made: &Made, before: usize, at: u64) -> Vec<(u32, u32, u64, u64)> {
+fn open(made: &Made, before: usize, at: u64) -> Vec<(u32, Set, u64, u64)> {
     rounds(made, before).into_iter().filter(|r| r.2 <= at && at < r.3).collect()
 }
 
-fn contests(made: &Made, before: usize) -> u32 {
-    items(made)[..before].iter().filter(|s| s.code == CONTEST).fold(0, |set, s| set | 1 << s.content[0])
+/// The contests that are defined before a position.
+fn contests(made: &Made, before: usize) -> Set {
+    let defined = items(made)[..before].iter().filter(|s| s.code == CONTEST);
+    defined.fold(Set::EMPTY, |set, s| set | Set::one(s.content[0]))
+}
+
+/// Those of the round, session or ballot at a position.
+fn set_of(made: &Made, at: usize) -> Set {
+    let item = &items(made)[at];
+    made.width.set(item.code, &item.content)
+}
+
+/// Those that open rounds enable at the position and the time of an item.
+fn enabled(made: &Made, at: usize) -> Set {
+    open(made, at, items(made)[at].time).iter().fold(Set::EMPTY, |set, r| set | r.1)
+}
+
+/// Gives the round, session or ballot at a position another set.
+fn change_set(made: &Made, at: usize, set: Set) -> Change {
+    let place = made.width.set_place(items(made)[at].code);
+    change_item(made, at, |s| s.content[place].copy_from_slice(set.words(made.width)))
 }
 
 fn administrator(made: &Made) -> [u32; 8] {
@@ -137,43 +166,46 @@ fn new_item(made: &Made, code: u32, before: usize, parent: Link, content: Vec<u3
     }
 }
 
-fn new_round(made: &Made, before: usize, number: u32, set: u32, start: u64, end: u64) -> Spec {
-    let words = [number, set, (start >> 32) as u32, start as u32, (end >> 32) as u32, end as u32];
+fn new_round(made: &Made, before: usize, number: u32, set: Set, start: u64, end: u64) -> Spec {
+    let content = round_content(made.width, number, set, start, end);
     let parent = Link::Item(latest_config(made, before));
-    new_item(made, ROUND, before, parent, words.to_vec(), administrator(made))
+    new_item(made, ROUND, before, parent, content, administrator(made))
 }
 
-/// Content that fits a type by its count and its own ranges.
+/// Content that fits a type by its count and its own ranges, on a board as wide as this one.
 fn plain_content(made: &Made, code: u32, before: usize, random: &mut Random) -> Vec<u32> {
+    // What begins a board decides its width by itself, and that of a board that begins otherwise is narrow.
+    let width = if before == 0 { Width::Narrow } else { made.width };
+    let defined = match contests(made, before) {
+        Set::EMPTY => Set::one(0),
+        defined => defined,
+    };
     let mut content = random.words(match code {
-        GENESIS => 17,
         TEXT => 5,
         CONTEST => 3,
         THRESHOLD => 10,
         AUTHORIZER | VOTER_COMMITMENT | SERVER_COMMITMENT => 9,
-        ROUND => 6,
-        SESSION => 19,
-        BALLOT => 18,
+        SESSION => SESSION_SET,
         EXTRACTION | VERIFIER => 8,
-        CONFIRMATION => 17,
+        CONFIRMATION => 1 + TRUSTEE,
         VOTER_OPENING | SERVER_OPENING => 4,
         _ => 0,
     });
-    let defined = contests(made, before).max(1);
     match code {
         GENESIS => content = items(made)[0].content.clone(),
-        CONTEST => content[0] &= 31,
+        CONTEST => content[0] %= width.contests(),
         THRESHOLD => content[..2].copy_from_slice(&[3, 2]),
         AUTHORIZER => content[0] = 1,
-        ROUND => content = vec![content[0] & 15, random.subset(defined), 0, 0, 1, 0],
+        ROUND => content = round_content(width, random.below(16) as u32, random.contests(defined), 0, 1 << 32),
         SESSION => {
             content[1] |= 1;
-            content[18] = random.subset(defined);
+            content.extend(random.contests(defined).words(width));
         }
         VOTER_COMMITMENT | SERVER_COMMITMENT => content[8] &= 0xff00_0000,
         BALLOT => {
-            content[0] = random.bit(defined);
-            content[17] &= 0xffff_0000;
+            content = Set::one(random.contest(defined)).words(width).to_vec();
+            content.extend(random.words(CRYPTOGRAM - 1));
+            content.push(random.word() & 0xffff_0000);
         }
         CONFIRMATION => content[0] = 1,
         _ => {}
@@ -311,15 +343,22 @@ fn strange_head_last(made: &Made, _: u32, random: &mut Random) -> Change {
 
 // ---- 6: misfit ----
 
-fn misfit_count(code: u32, random: &mut Random) -> usize {
+/// A count that a type does not have on a board of a width. Often it is one that the type has at the other width.
+fn misfit_count(width: Width, code: u32, random: &mut Random) -> usize {
+    let other = if width == Width::Wide { Width::Narrow } else { Width::Wide };
     loop {
-        let n = match random.below(4) {
+        let n = match random.below(5) {
             0 => random.between(0, 70),
             1 => random.between(0, 600),
-            2 => *random.pick(&[0, 7, 9, 10, 11, 16, 18, 65, 66, 257, 1 + 17 * 33, 1 + 16 * 33, 65535]),
+            2 => *random.pick(&[0, 7, 9, 10, 11, 16, 19, 65, 66, 257, 1 + 17 * 33, 1 + 16 * 33, 8 + 17 * 257, 65535]),
+            3 => match code {
+                ROUND => 5 + other.words(),
+                SESSION => SESSION_SET + other.words(),
+                _ => other.words() + CRYPTOGRAM * random.between(0, 33),
+            },
             _ => random.below(65536),
         };
-        if !count_fits(code, n) {
+        if !width.count_fits(code, n) {
             return n;
         }
     }
@@ -328,14 +367,14 @@ fn misfit_count(code: u32, random: &mut Random) -> usize {
 /// Only the head's count is wrong.
 fn misfit_head(made: &Made, code: u32, random: &mut Random) -> Change {
     let at = pick(made, code, random)?;
-    let n = misfit_count(code, random);
+    let n = misfit_count(made.width, code, random);
     change_item(made, at, |s| s.count = Some(n))
 }
 
 /// The content has the wrong count too, and the address is right for it.
 fn misfit_content(made: &Made, code: u32, random: &mut Random) -> Change {
     let at = pick(made, code, random)?;
-    let n = misfit_count(code, random);
+    let n = misfit_count(made.width, code, random);
     let content = random.words(n);
     change_item(made, at, |s| s.content = content)
 }
@@ -343,7 +382,7 @@ fn misfit_content(made: &Made, code: u32, random: &mut Random) -> Change {
 fn misfit_head_last(made: &Made, code: u32, random: &mut Random) -> Change {
     let at = pick(made, code, random)?;
     let mut plan = made.plan.clone();
-    plan.items[at].count = Some(misfit_count(code, random));
+    plan.items[at].count = Some(misfit_count(made.width, code, random));
     plan.cut = Some((at, 1));
     Some((plan, at))
 }
@@ -873,7 +912,9 @@ fn second_genesis(made: &Made, _: u32, random: &mut Random) -> Change {
     let at = config_position(made, 1, random)?;
     let mut content = items(made)[0].content.clone();
     if random.chance(50) {
-        content = random.words(17);
+        // Its traits are not read.
+        content = random.words(PLAIN_GENESIS);
+        content.extend(*random.pick(&[None, Some(0), Some(WIDE_SETS), Some(2), Some(u32::MAX)]));
     }
     insert(made, at, new_item(made, GENESIS, at, Link::Zeros, content, administrator(made)))
 }
@@ -969,7 +1010,10 @@ fn cast_after_opening(made: &Made, _: u32, random: &mut Random) -> Change {
 // ---- 13: bad content ----
 
 fn contest_number(made: &Made, _: u32, random: &mut Random) -> Change {
-    change_content(made, CONTEST, random, |c, r| c[0] = *r.pick(&[32, 33, 63, 64, 1 << 31, u32::MAX]))
+    let numbers = made.width.contests();
+    change_content(made, CONTEST, random, |c, r| {
+        c[0] = *r.pick(&[numbers, numbers + 1, numbers + 31, 2 * numbers, 1 << 31, u32::MAX]);
+    })
 }
 
 fn threshold_is(made: &Made, random: &mut Random, m: u32, t: u32) -> Change {
@@ -1004,102 +1048,125 @@ fn round_number(made: &Made, _: u32, random: &mut Random) -> Change {
     change_content(made, ROUND, random, |c, r| c[0] = *r.pick(&[16, 17, 31, 32, u32::MAX]))
 }
 fn round_empty(made: &Made, _: u32, random: &mut Random) -> Change {
-    change_content(made, ROUND, random, |c, _| c[1] = 0)
+    let at = pick(made, ROUND, random)?;
+    change_set(made, at, Set::EMPTY)
 }
 /// A contest that is not defined yet, alone or beside the others.
-fn undefined_contest(made: &Made, code: u32, random: &mut Random, word: usize) -> Change {
+fn undefined_contest(made: &Made, code: u32, random: &mut Random) -> Change {
     let at = pick(made, code, random)?;
-    let defined = contests(made, at);
-    if defined == u32::MAX {
+    let undefined = Set::all(made.width).minus(contests(made, at));
+    if undefined.is_empty() {
         return None;
     }
-    let other = random.bit(!defined);
+    let other = Set::one(random.contest(undefined));
     let alone = random.chance(30);
-    change_item(made, at, |s| s.content[word] = if alone { other } else { s.content[word] | other })
+    change_set(made, at, if alone { other } else { set_of(made, at) | other })
 }
 fn round_undefined(made: &Made, _: u32, random: &mut Random) -> Change {
-    undefined_contest(made, ROUND, random, 1)
+    undefined_contest(made, ROUND, random)
+}
+/// A round with another start and end, from those that it has.
+fn round_times(made: &Made, random: &mut Random, edit: fn(u64, u64) -> (u64, u64)) -> Change {
+    let at = pick(made, ROUND, random)?;
+    let round = &items(made)[at].content;
+    let (start, end) = made.width.round_times(round);
+    let (start, end) = edit(start, end);
+    let content = round_content(made.width, round[0], set_of(made, at), start, end);
+    change_item(made, at, |s| s.content = content)
 }
 fn round_start_is_end(made: &Made, _: u32, random: &mut Random) -> Change {
-    change_content(made, ROUND, random, |c, _| (c[4], c[5]) = (c[2], c[3]))
+    round_times(made, random, |start, _| (start, start))
 }
 fn round_start_after_end(made: &Made, _: u32, random: &mut Random) -> Change {
-    change_content(made, ROUND, random, |c, _| (c[2], c[3], c[4], c[5]) = (c[4], c[5], c[2], c[3]))
+    round_times(made, random, |start, end| (end, start))
 }
 /// The start's low word is less, its high word more.
 fn round_start_after_end_high(made: &Made, _: u32, random: &mut Random) -> Change {
-    change_content(made, ROUND, random, |c, _| c[2..6].copy_from_slice(&[8, 0, 7, 9]))
+    round_times(made, random, |_, _| (8 << 32, 7 << 32 | 9))
 }
 
 fn session_weight(made: &Made, _: u32, random: &mut Random) -> Change {
     change_content(made, SESSION, random, |c, _| c[1] = 0)
 }
 fn session_empty(made: &Made, _: u32, random: &mut Random) -> Change {
-    change_content(made, SESSION, random, |c, _| c[18] = 0)
+    let at = pick(made, SESSION, random)?;
+    change_set(made, at, Set::EMPTY)
 }
 fn session_undefined(made: &Made, _: u32, random: &mut Random) -> Change {
-    undefined_contest(made, SESSION, random, 18)
+    undefined_contest(made, SESSION, random)
 }
 
 fn commitment_bits(made: &Made, code: u32, random: &mut Random) -> Change {
     change_content(made, code, random, |c, r| c[8] |= *r.pick(&[1, 1 << 23, 1 << 12, 0x00ff_ffff]))
 }
 
+/// How many cryptograms a ballot has.
+fn cryptograms(made: &Made, at: usize) -> usize {
+    (items(made)[at].content.len() - made.width.words()) / CRYPTOGRAM
+}
+
 fn cryptogram_bits(made: &Made, _: u32, random: &mut Random) -> Change {
-    change_content(made, BALLOT, random, |c, r| {
-        let k = (c.len() - 1) / CRYPTOGRAM;
-        let some = 1 + r.below(k);
-        let which = *r.pick(&[1, k, some]);
-        c[which * CRYPTOGRAM] |= *r.pick(&[1, 1 << 15, 1 << 8]);
-    })
+    let at = pick(made, BALLOT, random)?;
+    let k = cryptograms(made, at);
+    let some = 1 + random.below(k);
+    let which = *random.pick(&[1, k, some]);
+    low_bits(made, at, which, random)
+}
+/// A low bit of a ballot's cryptogram with this number, from 1.
+fn low_bits(made: &Made, at: usize, which: usize, random: &mut Random) -> Change {
+    let bits = *random.pick(&[1, 1 << 15, 1 << 8]);
+    change_item(made, at, |s| s.content[made.width.words() + which * CRYPTOGRAM - 1] |= bits)
 }
 /// A cryptogram too many for the set.
 fn ballot_too_long(made: &Made, _: u32, random: &mut Random) -> Change {
-    let at = pick_where(made, random, |_, s| s.code == BALLOT && s.content.len() < 1 + CRYPTOGRAM * 32)?;
+    let most = made.width.contests() as usize;
+    let at = pick_where(made, random, |i, s| s.code == BALLOT && cryptograms(made, i) < most)?;
     change_item(made, at, |s| s.content.extend([0; CRYPTOGRAM]))
 }
 fn ballot_too_short(made: &Made, _: u32, random: &mut Random) -> Change {
-    let at = pick_where(made, random, |_, s| s.code == BALLOT && s.content.len() > 1 + CRYPTOGRAM)?;
+    let at = pick_where(made, random, |i, s| s.code == BALLOT && cryptograms(made, i) > 1)?;
     change_item(made, at, |s| s.content.truncate(s.content.len() - CRYPTOGRAM))
 }
 fn ballot_empty(made: &Made, _: u32, random: &mut Random) -> Change {
-    change_content(made, BALLOT, random, |c, _| c[0] = 0)
+    let at = pick(made, BALLOT, random)?;
+    change_set(made, at, Set::EMPTY)
 }
 /// A contest is swapped for another, so that the count still fits.
-fn ballot_swap(made: &Made, random: &mut Random, into: impl Fn(usize) -> u32) -> Change {
-    let at = pick_where(made, random, |i, s| s.code == BALLOT && into(i) & !s.content[0] != 0)?;
-    let set = items(made)[at].content[0];
-    let (gone, come) = (random.bit(set), random.bit(into(at) & !set));
-    change_item(made, at, |s| s.content[0] = set & !gone | come)
+fn ballot_swap(made: &Made, random: &mut Random, into: impl Fn(usize) -> Set) -> Change {
+    let at = pick_where(made, random, |i, s| s.code == BALLOT && !into(i).is_within(set_of(made, i)))?;
+    let set = set_of(made, at);
+    let (gone, come) = (random.contest(set), random.contest(into(at).minus(set)));
+    change_set(made, at, set.minus(Set::one(gone)) | Set::one(come))
+}
+/// The contests that are enabled where a ballot stands, and not in its session.
+fn only_enabled(made: &Made, ballot: usize) -> Set {
+    enabled(made, ballot).minus(set_of(made, session_of(made, ballot)))
+}
+/// Those that are in its session, and not enabled.
+fn only_in_session(made: &Made, ballot: usize) -> Set {
+    set_of(made, session_of(made, ballot)).minus(enabled(made, ballot))
 }
 fn ballot_not_in_session(made: &Made, _: u32, random: &mut Random) -> Change {
-    ballot_swap(made, random, |i| {
-        let enabled = open(made, i, items(made)[i].time).iter().fold(0, |set, r| set | r.1);
-        enabled & !items(made)[session_of(made, i)].content[18]
-    })
+    ballot_swap(made, random, |i| only_enabled(made, i))
 }
 fn ballot_not_enabled(made: &Made, _: u32, random: &mut Random) -> Change {
-    ballot_swap(made, random, |i| {
-        let enabled = open(made, i, items(made)[i].time).iter().fold(0, |set, r| set | r.1);
-        items(made)[session_of(made, i)].content[18] & !enabled
-    })
+    ballot_swap(made, random, |i| only_in_session(made, i))
 }
 fn ballot_undefined(made: &Made, _: u32, random: &mut Random) -> Change {
-    ballot_swap(made, random, |i| !contests(made, i))
+    ballot_swap(made, random, |i| Set::all(made.width).minus(contests(made, i)))
 }
 /// The rounds that enabled a contest are replaced by such without it.
 fn ballot_only_replaced(made: &Made, _: u32, random: &mut Random) -> Change {
     let at = pick(made, BALLOT, random)?;
-    let ballot = items(made)[at].content[0];
-    let gone = random.bit(ballot);
-    let rest = contests(made, at) & !gone;
-    if rest == 0 {
+    let gone = Set::one(random.contest(set_of(made, at)));
+    let rest = contests(made, at).minus(gone);
+    if rest.is_empty() {
         return None;
     }
     let mut plan = made.plan.clone();
     let mut inserted = 0;
     for (number, set, start, end) in open(made, at, items(made)[at].time) {
-        let kept = if set & !gone != 0 { set & !gone } else { random.subset(rest) };
+        let kept = if set.is_within(gone) { random.contests(rest) } else { set.minus(gone) };
         let mut round = new_round(made, at, number, kept, start, end);
         if inserted > 0 {
             round.parent = Link::Item(at + inserted - 1);
@@ -1199,7 +1266,8 @@ fn fingerprint_cryptograms(made: &Made, _: u32, random: &mut Random) -> Change {
     if ballots.is_empty() {
         return None;
     }
-    let message: Vec<u32> = ballots.iter().flat_map(|&b| items(made)[b].content[1..].to_vec()).collect();
+    let set = made.width.words();
+    let message: Vec<u32> = ballots.iter().flat_map(|&b| items(made)[b].content[set..].to_vec()).collect();
     change_item(made, at, |s| s.content = sha256(&message).to_vec())
 }
 
@@ -1410,6 +1478,7 @@ fn close_early(made: &Made, _: u32, random: &mut Random) -> Change {
 /// Every fault but those of the word and item limits, which take long boards.
 pub fn faults() -> Vec<Fault> {
     let mut list = plain_faults();
+    list.extend(widths::width_faults());
     list.extend(rolls::roll_faults());
     list
 }
@@ -1418,7 +1487,8 @@ pub fn faults() -> Vec<Fault> {
 fn plain_faults() -> Vec<Fault> {
     let mut list = Vec::new();
     let mut one = |number: u32, reason: &str, change: fn(&Made, u32, &mut Random) -> Change| {
-        list.push(Fault { number, reason: format!("{number}/{reason}"), code: 0, change });
+        let reason = format!("{number}/{reason}");
+        list.push(Fault { number, reason, width: None, all_contests: false, code: 0, change });
     };
     one(3, "no words", no_words);
     one(3, "closing word first", closing_first);
@@ -1531,7 +1601,8 @@ fn plain_faults() -> Vec<Fault> {
 
     let mut each = |number: u32, reason: &str, codes: &[u32], change: fn(&Made, u32, &mut Random) -> Change| {
         for &code in codes {
-            list.push(Fault { number, reason: format!("{number}/{reason}/type {code}"), code, change });
+            let reason = format!("{number}/{reason}/type {code}");
+            list.push(Fault { number, reason, width: None, all_contests: false, code, change });
         }
     };
     let linked = &CODES[1..];
@@ -1591,6 +1662,7 @@ pub fn spoil_more(faulty: &mut Faulty, random: &mut Random) -> Option<u32> {
         return None;
     }
     let plan = &mut faulty.plan;
+    let width = plan.width();
     let voter = plan.items[at].content.first().copied();
     let is_voters = |s: &Spec| s.code == SESSION && s.content.first().copied() == voter;
     let first_session = is_voters(&plan.items[at]) && !plan.items[..at].iter().any(is_voters);
@@ -1603,7 +1675,7 @@ pub fn spoil_more(faulty: &mut Faulty, random: &mut Random) -> Option<u32> {
             plan.cut = Some((at, random.between(1, length - 1)));
         }
         5 => item.code = unlisted(random),
-        6 => item.count = Some(misfit_count(item.code, random)),
+        6 => item.count = Some(misfit_count(width, item.code, random)),
         7 if item.address == Address::Right => item.address = Address::Flipped(random.below(256)),
         8 => item.previous = Previous::Words(random.eight()),
         9 if item.kind == MAIN || item.previous == Previous::Right => item.parent = Link::Words(random.eight()),

@@ -1,4 +1,6 @@
-//! The words of a board: heads, the layout of an item, the table of types, the limits.
+//! The words of a board: heads, the layout of an item, the table of types, the widths of sets, the limits.
+
+pub use crate::sets::Set;
 
 pub const MAX_WORDS: usize = 262_144;
 pub const MAX_ITEMS: usize = 2_048;
@@ -109,24 +111,112 @@ pub fn kind_of(code: u32) -> Option<u32> {
     }
 }
 
-/// Whether the table has this content count for the type.
+/// Whether the table has this content count for the type, on a board of narrow sets.
 pub fn count_fits(code: u32, n: usize) -> bool {
-    match code {
-        GENESIS => n == 17,
-        TEXT => n <= 64,
-        CONTEST => (1..=65).contains(&n),
-        THRESHOLD => n == 10,
-        AUTHORIZER => n == 9,
-        ROUND => n == 6,
-        SESSION => n == 19,
-        VOTER_COMMITMENT | SERVER_COMMITMENT => n == 9,
-        BALLOT => (1..=32).any(|k| n == 1 + CRYPTOGRAM * k),
-        CAST | SPOIL | INTENT | TRACK => n == 0,
-        EXTRACTION | VERIFIER => n == 8,
-        CONFIRMATION => (1..=32).any(|k| n == 1 + TRUSTEE * k),
-        VOTER_OPENING | SERVER_OPENING => (1..=256).contains(&n),
-        _ => false,
+    Width::Narrow.count_fits(code, n)
+}
+
+// ---- the width of a board's sets ----
+
+/// The head of a first item that carries a traits word, and the place of that word on the board.
+pub const TRAITS_HEAD: u32 = 0x1001_0012;
+pub const TRAITS_PLACE: usize = 18;
+/// The content words of a genesis without it, which are then its place in the content.
+pub const PLAIN_GENESIS: usize = 17;
+/// The one trait that is known: contest sets of eight words.
+pub const WIDE_SETS: u32 = 1;
+
+/// Where the contest set stands in a round's and in a session's content; in a ballot's it is first.
+pub const ROUND_SET: usize = 1;
+pub const SESSION_SET: usize = 18;
+
+/// How wide a board's contest sets are.
+#[derive(Clone, Copy, PartialEq, Eq, PartialOrd, Ord, Debug)]
+pub enum Width {
+    Narrow,
+    Wide,
+}
+
+/// A board's traits word, where it has one. That of a later genesis is none.
+pub fn traits(board: &[u32]) -> Option<u32> {
+    match board.first() {
+        Some(&TRAITS_HEAD) => board.get(TRAITS_PLACE).copied(),
+        _ => None,
     }
+}
+
+impl Width {
+    /// As the board's own words have it. A board whose traits are not known is narrow until it is refused.
+    pub fn of(board: &[u32]) -> Width {
+        match traits(board) {
+            Some(WIDE_SETS) => Width::Wide,
+            _ => Width::Narrow,
+        }
+    }
+
+    /// The words of a contest set.
+    pub const fn words(self) -> usize {
+        match self {
+            Width::Narrow => 1,
+            Width::Wide => 8,
+        }
+    }
+
+    /// How many contest numbers there are, from 0 on; so many cryptograms can be in a ballot.
+    pub const fn contests(self) -> u32 {
+        32 * self.words() as u32
+    }
+
+    /// Whether the table has this content count for the type.
+    pub fn count_fits(self, code: u32, n: usize) -> bool {
+        let set = self.words();
+        match code {
+            GENESIS => n == PLAIN_GENESIS || n == PLAIN_GENESIS + 1,
+            TEXT => n <= 64,
+            CONTEST => (1..=65).contains(&n),
+            THRESHOLD => n == 10,
+            AUTHORIZER => n == 9,
+            ROUND => n == 5 + set,
+            SESSION => n == 18 + set,
+            VOTER_COMMITMENT | SERVER_COMMITMENT => n == 9,
+            BALLOT => (1..=self.contests() as usize).any(|k| n == set + CRYPTOGRAM * k),
+            CAST | SPOIL | INTENT | TRACK => n == 0,
+            EXTRACTION | VERIFIER => n == 8,
+            CONFIRMATION => (1..=32).any(|k| n == 1 + TRUSTEE * k),
+            VOTER_OPENING | SERVER_OPENING => (1..=256).contains(&n),
+            _ => false,
+        }
+    }
+
+    /// Where the contest set stands in the content of a round, a session or a ballot.
+    pub fn set_place(self, code: u32) -> std::ops::Range<usize> {
+        let first = match code {
+            ROUND => ROUND_SET,
+            SESSION => SESSION_SET,
+            BALLOT => 0,
+            _ => panic!("type {code} has no contest set"),
+        };
+        first..first + self.words()
+    }
+
+    /// The contest set of a round, a session or a ballot.
+    pub fn set(self, code: u32, content: &[u32]) -> Set {
+        Set::of(&content[self.set_place(code)])
+    }
+
+    /// The start and the end of a round, which stand behind its set.
+    pub fn round_times(self, content: &[u32]) -> (u64, u64) {
+        let start = self.set_place(ROUND).end;
+        (time(content, start), time(content, start + 2))
+    }
+}
+
+/// The content of a round.
+pub fn round_content(width: Width, number: u32, contests: Set, start: u64, end: u64) -> Vec<u32> {
+    let mut content = vec![number];
+    content.extend(contests.words(width));
+    content.extend([(start >> 32) as u32, start as u32, (end >> 32) as u32, end as u32]);
+    content
 }
 
 /// What the table lists as a type's parent.

@@ -10,7 +10,7 @@ use crate::interface::*;
 use crate::plan::{Link, Plan, Previous};
 use crate::random::Random;
 use crate::sha256::sha256;
-use crate::sound::{any_shape, make};
+use crate::sound::{any_shape, make_with, Traits};
 
 /// Some hidden items go, with all that hangs on them.
 pub fn remove_hidden(plan: &mut Plan, random: &mut Random) {
@@ -51,7 +51,8 @@ fn closed_mains(words: &[u32], index: &[u32], items: usize) -> Vec<u32> {
 pub fn check_hidden_tracks(seed: u64) -> Result<bool, String> {
     let random = &mut Random::new(seed);
     let shape = any_shape(random, 150);
-    let made = make(random, sha256, shape);
+    let traits = Traits::any(random);
+    let made = make_with(random, sha256, shape, traits);
     let mut plan = made.plan.clone();
     remove_hidden(&mut plan, random);
     let run = |plan: &Plan| {

@@ -2,9 +2,9 @@
 //! is needed to hold the auditor against it: boards made from a seed, sound and faulty, and
 //! a comparison word by word over the C interface.
 //!
-//! The rules: `sha256`, `format`, `audit`, `compare`, `ancestry`, `program`.
+//! The rules: `sha256`, `format`, `sets`, `audit`, `compare`, `ancestry`, `program`.
 //! The boards: `random`, `plan`, `roll`, `sound`, `crowded`, `faults`, `damage`, `collisions`.
-//! The checks: `interface`, `header`, `stand_in`, `told`, `closed`, `opened`, `enrolled`, `reached`, `hidden`,
+//! The checks: `interface`, `header`, `stand_in`, `told`, `closed`, `opened`, `enrolled`, `contests`, `reached`, `hidden`,
 //! `calls`, `checks`, `stored`.
 
 pub mod ancestry;
@@ -14,6 +14,7 @@ pub mod checks;
 pub mod closed;
 pub mod collisions;
 pub mod compare;
+pub mod contests;
 pub mod crowded;
 pub mod damage;
 pub mod enrolled;
@@ -28,6 +29,7 @@ pub mod program;
 pub mod random;
 pub mod reached;
 pub mod roll;
+pub mod sets;
 pub mod sha256;
 pub mod sound;
 pub mod stand_in;

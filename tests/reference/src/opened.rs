@@ -5,7 +5,7 @@ use crate::told::Told;
 
 /// The number of each voter opening, and of the ballot that its track hangs on: a verifier and a track start
 /// stand between them.
-fn openings(told: &Told) -> impl Iterator<Item = (usize, usize)> + '_ {
+fn openings<'a>(told: &'a Told<'a>) -> impl Iterator<Item = (usize, usize)> + 'a {
     told.of(&[VOTER_OPENING]).map(|opening| {
         let track = told.parent(told.parent(opening));
         (opening, told.parent(track))

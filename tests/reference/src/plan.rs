@@ -101,6 +101,13 @@ impl Plan {
         }
     }
 
+    /// The width of its sets, as its first words will have it.
+    pub fn width(&self) -> Width {
+        let first = &self.items[0];
+        let count = first.count.unwrap_or(first.content.len());
+        Width::of(&[&[head(first.kind, first.code, count)], &first.content[..]].concat())
+    }
+
     /// Puts an item before the one at `at`; links to later positions follow.
     pub fn insert(&mut self, at: usize, spec: Spec) {
         for item in &mut self.items {

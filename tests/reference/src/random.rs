@@ -1,5 +1,7 @@
 //! Numbers from a seed: xorshift64*, good enough to make boards and the same everywhere.
 
+use crate::sets::Set;
+
 pub struct Random {
     state: u64,
 }
@@ -73,5 +75,23 @@ impl Random {
     pub fn bit(&mut self, set: u32) -> u32 {
         let bits: Vec<u32> = (0..32).map(|j| 1u32 << j).filter(|b| set & b != 0).collect();
         *self.pick(&bits)
+    }
+
+    /// A set of at least one of the contests in `set`, which is not empty.
+    pub fn contests(&mut self, set: Set) -> Set {
+        // No words are drawn behind the last that has a contest.
+        let words = set.numbers().last().expect("a contest") as usize / 32 + 1;
+        loop {
+            let chosen = Set::of(&self.words(words)) & set;
+            if !chosen.is_empty() {
+                return chosen;
+            }
+        }
+    }
+
+    /// One of the contests in `set`, which is not empty.
+    pub fn contest(&mut self, set: Set) -> u32 {
+        let numbers: Vec<u32> = set.numbers().collect();
+        *self.pick(&numbers)
     }
 }

@@ -1,9 +1,13 @@
 //! What there must be boards of. Sound boards are to show ballots, who closed them and who opened them, as known
-//! from their making; all boards together, the ways in which a roll is good, bad, or lacks a voter.
+//! from their making; all boards together, the ways in which a roll is good, bad, or lacks a voter, each at both
+//! widths of contest sets. Of the widths themselves see `widths`.
 
 use crate::calls::places;
 use crate::format::*;
 use crate::sound::Expected;
+
+mod widths;
+pub use widths::{Sets, SETS_WANTED};
 
 /// A ballot, the cast or spoil under it, and how far its track goes.
 struct Ballot {
@@ -143,9 +147,12 @@ impl Items<'_> {
         code(self.words[self.place(number)])
     }
     fn time(&self, number: u32) -> u64 {
-        let place = self.place(number);
+        Items::time_at(self.words, self.place(number))
+    }
+    /// Of the item whose head stands there.
+    fn time_at(words: &[u32], place: usize) -> u64 {
         // The content, the parent's address and the previous item's stand between the head and the time.
-        time(self.words, place + 1 + count(self.words[place]) + 16)
+        time(words, place + 1 + count(words[place]) + 16)
     }
     fn voter(&self, session: u32) -> u32 {
         self.words[self.place(session) + 1]
@@ -209,6 +216,9 @@ struct Session {
 
 type ShowsRoll = fn(&Roll) -> bool;
 
+/// What only a narrow board shows: without words there are no traits.
+pub const BLANK: &str = "20: a blank board";
+
 /// What there must be rolls of, by a short name.
 pub const ROLLS_WANTED: [(&str, ShowsRoll); 28] = [
     ("accepted with no roll words", |r| r.accepted() && r.words.is_empty()),
@@ -233,7 +243,7 @@ pub const ROLLS_WANTED: [(&str, ShowsRoll); 28] = [
     ("20: 2,049 pairs that rise", |r| r.number == 20 && r.words.len() == ROLL_MOST + ROLL_ROW && r.rises()),
     ("20: equal neighbours", |r| r.is_uneven(|a, b| a == b)),
     ("20: falling neighbours", |r| r.is_uneven(|a, b| a > b)),
-    ("20: a blank board", |r| r.number == 20 && r.blank),
+    (BLANK, |r| r.number == 20 && r.blank),
     ("21: an empty roll", |r| r.number == 21 && r.words.is_empty()),
     ("21: a voter below all", |r| r.is_missing(|voter, pairs| pairs.iter().all(|&other| voter < other))),
     ("21: a voter between two", |r| {

@@ -21,6 +21,46 @@ pub struct Shape {
     pub extraction: bool,
 }
 
+/// What a genesis says of traits: nothing, a word without any, or that contest sets are wide.
+#[derive(Clone, Copy, PartialEq, Eq, Debug)]
+pub enum Traits {
+    Unsaid,
+    Zero,
+    Wide,
+}
+
+impl Traits {
+    pub const ALL: [Traits; 3] = [Traits::Unsaid, Traits::Zero, Traits::Wide];
+
+    pub fn any(random: &mut Random) -> Traits {
+        *random.pick(&[Traits::Unsaid, Traits::Unsaid, Traits::Zero, Traits::Wide, Traits::Wide])
+    }
+
+    /// Those with which a board has sets of a width.
+    pub fn of_width(width: Width, random: &mut Random) -> Traits {
+        match width {
+            Width::Narrow => *random.pick(&[Traits::Unsaid, Traits::Unsaid, Traits::Zero]),
+            Width::Wide => Traits::Wide,
+        }
+    }
+
+    pub fn width(self) -> Width {
+        match self {
+            Traits::Wide => Width::Wide,
+            _ => Width::Narrow,
+        }
+    }
+
+    /// The traits word, where there is one.
+    pub fn word(self) -> Option<u32> {
+        match self {
+            Traits::Unsaid => None,
+            Traits::Zero => Some(0),
+            Traits::Wide => Some(WIDE_SETS),
+        }
+    }
+}
+
 /// An item's index row, all but the place of its head, which is known once the words are laid out.
 #[derive(Clone, Copy, Debug)]
 pub struct Row {
@@ -62,6 +102,8 @@ pub struct Expected {
 pub struct Made {
     pub plan: Plan,
     pub expected: Expected,
+    /// Of its contest sets.
+    pub width: Width,
 }
 
 impl Made {
@@ -86,7 +128,7 @@ impl Made {
 #[derive(Clone, Copy)]
 struct Round {
     number: u32,
-    contests: u32,
+    contests: Set,
     start: u64,
     end: u64,
 }
@@ -95,7 +137,7 @@ struct Session {
     voter: u32,
     weight: u32,
     key: [u32; 8],
-    contests: u32,
+    contests: Set,
     position: usize,
 }
 
@@ -104,6 +146,8 @@ pub(crate) struct Maker<'a> {
     pub(crate) random: &'a mut Random,
     hash: Hash,
     shape: Shape,
+    traits: Traits,
+    pub(crate) width: Width,
     pub(crate) items: Vec<Spec>,
     words: usize,
     expected: Expected,
@@ -112,7 +156,7 @@ pub(crate) struct Maker<'a> {
     pub(crate) administrator: [u32; 8],
     pub(crate) ballot_box: [u32; 8],
     pub(crate) authorizer: [u32; 8],
-    pub(crate) contests: u32,
+    pub(crate) contests: Set,
     rounds: Vec<Round>,
     trustees: u32,
     threshold: u32,
@@ -135,14 +179,33 @@ pub(crate) struct Maker<'a> {
     pub(crate) counted: Vec<(usize, u32, u32)>,
 }
 
-/// A random sound board of this shape.
+/// A random sound board of this shape, with no word of traits.
 pub fn make(random: &mut Random, hash: Hash, shape: Shape) -> Made {
+    make_with(random, hash, shape, Traits::Unsaid)
+}
+
+/// The same with these traits.
+pub fn make_with(random: &mut Random, hash: Hash, shape: Shape, traits: Traits) -> Made {
     for _ in 0..1_000 {
-        if let Some(made) = try_make(random, hash, shape) {
+        if let Some(made) = try_make(random, hash, shape, traits) {
             return made;
         }
     }
-    panic!("no board of this shape can be made: {shape:?}");
+    panic!("no board of this shape can be made: {shape:?}, {traits:?}");
+}
+
+/// Wide boards of so many items have many contests, at times all 256.
+const MANY_ITEMS: usize = 300;
+
+/// A shape for a board of many contests, where sets are wide.
+pub fn many_contests(random: &mut Random) -> Shape {
+    Shape {
+        items: random.between(MANY_ITEMS, MANY_ITEMS + 100),
+        words: None,
+        long: *random.pick(&[5, 60, 100]),
+        voters: random.between(1, 9),
+        extraction: random.chance(60),
+    }
 }
 
 /// A shape for a board of up to `most` items.
@@ -157,8 +220,8 @@ pub fn any_shape(random: &mut Random, most: usize) -> Shape {
     }
 }
 
-fn try_make(random: &mut Random, hash: Hash, shape: Shape) -> Option<Made> {
-    let mut maker = Maker::new(random, hash, shape);
+fn try_make(random: &mut Random, hash: Hash, shape: Shape, traits: Traits) -> Option<Made> {
+    let mut maker = Maker::new(random, hash, shape, traits);
     for _ in 0..shape.voters.max(1) {
         let voter = if maker.random.chance(80) { maker.random.below(1000) as u32 } else { maker.random.word() };
         maker.voters.push(voter);
@@ -181,11 +244,13 @@ fn first_time(random: &mut Random) -> u64 {
 }
 
 impl Maker<'_> {
-    pub(crate) fn new(random: &mut Random, hash: Hash, shape: Shape) -> Maker<'_> {
+    pub(crate) fn new(random: &mut Random, hash: Hash, shape: Shape, traits: Traits) -> Maker<'_> {
         let now = first_time(random);
         let mut maker = Maker {
             hash,
             shape,
+            traits,
+            width: traits.width(),
             items: Vec::new(),
             words: 1,
             expected: Expected::default(),
@@ -193,7 +258,7 @@ impl Maker<'_> {
             administrator: random.eight(),
             ballot_box: random.eight(),
             authorizer: ZEROS,
-            contests: 0,
+            contests: Set::EMPTY,
             rounds: Vec::new(),
             trustees: 0,
             threshold: 0,
@@ -225,7 +290,7 @@ impl Maker<'_> {
             expected.ballots.push([expected.rows[ballot].mains_before + 1, voter, weight]);
         }
         let roll = any_roll(&voters_of(&self.items), self.random);
-        Made { plan: Plan::new(self.items, roll), expected }
+        Made { plan: Plan::new(self.items, roll), expected, width: self.width }
     }
 
     fn run(&mut self) {
@@ -334,15 +399,15 @@ impl Maker<'_> {
         let mut content = vec![self.random.word()];
         content.extend(self.administrator);
         content.extend(self.ballot_box);
+        content.extend(self.traits.word());
         self.add(GENESIS, 0, content, self.now, self.administrator);
     }
 
     /// Contests, threshold, authorizer and a round, in some order, as far as they go.
     fn set_up(&mut self, most: usize) {
-        let many = self.shape.long >= 60 || self.shape.words.is_some();
-        let contests = if many { self.random.between(20, 32) } else { self.random.between(1, 6) };
+        let contests = self.contest_count();
         let mut wanted = vec![THRESHOLD, AUTHORIZER];
-        wanted.extend(vec![CONTEST; contests.min(1 + self.shape.items / 10)]);
+        wanted.extend(vec![CONTEST; contests]);
         for _ in 0..self.random.below(3) {
             wanted.push(*self.random.pick(&[TEXT, CONTEST, AUTHORIZER]));
         }
@@ -356,9 +421,24 @@ impl Maker<'_> {
             }
         }
         for _ in 0..self.random.between(1, 3) {
-            if self.items.len() < most && self.contests != 0 {
+            if self.items.len() < most && !self.contests.is_empty() {
                 self.add_round(None);
             }
+        }
+    }
+
+    /// How many contests are set up. Wide boards often have many for their items.
+    fn contest_count(&mut self) -> usize {
+        let many = self.shape.long >= 60 || self.shape.words.is_some();
+        let contests = if many { self.random.between(20, 32) } else { self.random.between(1, 6) };
+        let most = self.shape.items / 10;
+        match self.width {
+            Width::Wide if self.shape.items >= MANY_ITEMS => {
+                let some = self.random.between(40, 255);
+                (*self.random.pick(&[256, some])).min(self.shape.items - 44)
+            }
+            Width::Wide if many || self.random.chance(40) => self.random.between(2, 4 + 3 * most),
+            _ => contests.min(1 + most),
         }
     }
 
@@ -369,16 +449,44 @@ impl Maker<'_> {
     }
 
     pub(crate) fn add_contest(&mut self) {
-        let number = if self.random.chance(70) && self.contests != u32::MAX {
-            self.random.bit(!self.contests).trailing_zeros()
-        } else {
-            self.random.below(32) as u32
-        };
+        let number = self.contest_number();
         let mut content = vec![number];
         let length = self.length(0, 64);
         content.extend(self.random.words(length));
         self.configure(CONTEST, content);
-        self.contests |= 1 << number;
+        self.contests |= Set::one(number);
+    }
+
+    /// All contests that a board of this width can have, in some order, without a text.
+    pub(crate) fn add_all_contests(&mut self) {
+        let mut numbers: Vec<u32> = Set::all(self.width).numbers().collect();
+        self.random.shuffle(&mut numbers);
+        for number in numbers {
+            self.configure(CONTEST, vec![number]);
+        }
+        self.contests = Set::all(self.width);
+    }
+
+    /// A number for a round that no item before has; 16 of them can be asked for.
+    pub(crate) fn new_round_number(&mut self) -> u32 {
+        let numbers: Vec<u32> = (0..16).filter(|n| !self.has_round(*n)).collect();
+        *self.random.pick(&numbers)
+    }
+
+    fn has_round(&self, number: u32) -> bool {
+        self.items.iter().any(|s| s.code == ROUND && s.content[0] == number)
+    }
+
+    /// A number for a contest: mostly a new one, and on wide boards often one at an end of a set's word.
+    fn contest_number(&mut self) -> u32 {
+        let new = Set::all(self.width).minus(self.contests);
+        if self.random.chance(70) && !new.is_empty() {
+            let ends = Set::at_ends() & new;
+            let at_end = self.width == Width::Wide && !ends.is_empty() && self.random.chance(50);
+            self.random.contest(if at_end { ends } else { new })
+        } else {
+            self.random.below(self.width.contests() as usize) as u32
+        }
     }
 
     pub(crate) fn add_threshold(&mut self) {
@@ -398,13 +506,13 @@ impl Maker<'_> {
     }
 
     /// A round with some of the contests, or with all of those given.
-    fn add_round(&mut self, with: Option<u32>) {
+    fn add_round(&mut self, with: Option<Set>) {
         let time = self.later();
         let number = match self.random.below(4) {
             0 if !self.rounds.is_empty() => self.random.pick(&self.rounds).number,
             _ => self.random.below(16) as u32,
         };
-        let contests = with.unwrap_or(0) | self.random.subset(self.contests);
+        let contests = with.unwrap_or(Set::EMPTY) | self.random.contests(self.contests);
         let start = match self.random.below(6) {
             0 => 0,
             1 => time + self.random.below(100) as u64,
@@ -417,15 +525,15 @@ impl Maker<'_> {
             2 => time + (1 << 33),
             _ => start.max(time) + self.random.between(1_000, 1_000_000) as u64,
         };
-        let words = [number, contests, (start >> 32) as u32, start as u32, (end >> 32) as u32, end as u32];
-        self.add(ROUND, self.config, words.to_vec(), time, self.administrator);
+        let content = round_content(self.width, number, contests, start, end);
+        self.add(ROUND, self.config, content, time, self.administrator);
         self.rounds.retain(|r| r.number != number);
         self.rounds.push(Round { number, contests, start, end });
     }
 
-    fn enabled(&self, time: u64) -> u32 {
+    fn enabled(&self, time: u64) -> Set {
         let open = self.rounds.iter().filter(|r| r.start <= time && time < r.end);
-        open.fold(0, |set, r| set | r.contests)
+        open.fold(Set::EMPTY, |set, r| set | r.contests)
     }
 
     /// A time at which a round is open; none where that takes a new round.
@@ -437,7 +545,7 @@ impl Maker<'_> {
             times = vec![round.start, round.end - 1];
             times.retain(|&t| t < self.now + (1 << 34));
         }
-        times.retain(|&t| t >= self.now && self.enabled(t) != 0);
+        times.retain(|&t| t >= self.now && !self.enabled(t).is_empty());
         if times.is_empty() {
             None
         } else {
@@ -447,13 +555,13 @@ impl Maker<'_> {
 
     /// One more item of the voting phase.
     fn step(&mut self) {
-        let ready = self.threshold > 0 && self.authorizer != ZEROS && self.contests != 0;
+        let ready = self.threshold > 0 && self.authorizer != ZEROS && !self.contests.is_empty();
         let choice = self.random.below(100);
         if choice < 3 || !ready {
             match self.random.below(4) {
                 0 => self.add_contest(),
                 1 if self.threshold > 0 => self.add_authorizer(),
-                2 if self.contests != 0 => self.add_round(None),
+                2 if !self.contests.is_empty() => self.add_round(None),
                 _ => self.add_text(),
             }
             return;
@@ -493,11 +601,11 @@ impl Maker<'_> {
             _ => self.random.eight(),
         };
         let all = self.random.chance(40) || self.long_now() == 100;
-        let contests = if all { self.contests } else { self.random.subset(self.contests) };
+        let contests = if all { self.contests } else { self.random.contests(self.contests) };
         let mut content = vec![voter, weight];
         content.extend(key);
         content.extend(self.random.eight());
-        content.push(contests);
+        content.extend(contests.words(self.width));
         let position = self.add(SESSION, self.config, content, time, self.authorizer);
         // The voter's earlier session is overwritten: nothing may follow in it.
         self.sessions.retain(|s| s.voter != voter);
@@ -546,24 +654,49 @@ impl Maker<'_> {
         let session = self.session_of(parent);
         let (key, of_session) = (self.sessions[session].key, self.sessions[session].contests);
         let possible = of_session & self.enabled(time);
-        if possible == 0 {
+        if possible.is_empty() {
             return self.add_round(Some(of_session));
         }
         self.answered.retain(|&i| i != parent);
-        let contests = match self.long_now() {
-            100 => possible,
-            long if self.random.chance(long) => self.random.subset(possible),
-            _ if self.random.chance(70) => self.random.bit(possible),
-            _ => self.random.subset(possible) & self.random.subset(possible) | self.random.bit(possible),
-        };
-        let mut content = vec![contests];
-        for _ in 0..contests.count_ones() {
-            content.extend(self.random.words(CRYPTOGRAM - 1));
-            content.push(self.random.word() & 0xffff_0000);
-        }
+        let contests = self.chosen(possible);
+        let content = self.ballot_content(contests);
         let added = self.add(BALLOT, parent, content, time, key);
         self.undecided.push(added);
         self.untracked.push(added);
+    }
+
+    /// The contests of a ballot, of those that are possible.
+    fn chosen(&mut self, possible: Set) -> Set {
+        let mut contests = match self.long_now() {
+            100 => possible,
+            long if self.random.chance(long) => self.random.contests(possible),
+            _ if self.random.chance(70) => Set::one(self.random.contest(possible)),
+            _ => {
+                let some = self.random.contests(possible) & self.random.contests(possible);
+                some | Set::one(self.random.contest(possible))
+            }
+        };
+        if self.width == Width::Wide && self.random.chance(self.shape.long / 4) {
+            contests = possible;
+        }
+        // A hundred words are left for each item to come.
+        let items_left = self.shape.items.saturating_sub(self.items.len());
+        let words_left = self.shape.words.unwrap_or(MAX_WORDS).saturating_sub(self.words + 100 * items_left);
+        let most = (words_left / CRYPTOGRAM).max(1);
+        while self.width == Width::Wide && contests.count() > most {
+            contests = contests.minus(Set::one(self.random.contest(contests)));
+        }
+        contests
+    }
+
+    /// The content of a ballot with these contests.
+    pub(crate) fn ballot_content(&mut self, contests: Set) -> Vec<u32> {
+        let mut content = contests.words(self.width).to_vec();
+        for _ in 0..contests.count() {
+            content.extend(self.random.words(CRYPTOGRAM - 1));
+            content.push(self.random.word() & 0xffff_0000);
+        }
+        content
     }
 
     fn decide(&mut self, time: u64) {

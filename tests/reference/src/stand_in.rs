@@ -1,5 +1,6 @@
 //! The reference behind the auditor's C interface, to try the checks with: they must pass it, and must
-//! find each of the mistakes that it can be told to make. Those about the roll are in `rolls`.
+//! find each of the mistakes that it can be told to make. Those about the roll are in `rolls`, those about the
+//! widths of contest sets in `widths`.
 
 use crate::ancestry::ancestry_with;
 use crate::audit::{audit_with, is_good_roll, is_spoiled, Board, History, Item, Opening, Rules, RULES};
@@ -10,6 +11,7 @@ use std::slice::{from_raw_parts, from_raw_parts_mut};
 use std::sync::Mutex;
 
 mod rolls;
+mod widths;
 
 /// What the ballot table needed before request (viii): a row for each item. A planted mistake
 /// asks for it still, and the checks pass it as a longer table.
@@ -45,6 +47,10 @@ pub enum About {
     Order,
     /// The roll of a comparison's other board.
     OtherRoll,
+    /// Traits, or what depends on the width of contest sets.
+    Width,
+    /// A contest set, or its cryptograms, that is to be refused: it passes.
+    Contests,
 }
 
 /// Makes the mistakes of a list: each has a name, what it is about, and what is wrong.
@@ -124,6 +130,35 @@ mistakes! {
     RollBeforeContent, Order, "21 comes before 13";
     RollAfterVerdict, Order, "21 comes after 14";
     RollOfKept, OtherRoll, "the later board is audited with the kept board's roll";
+    LaterTraits, Width, "the traits of a later genesis are read";
+    AnyFirstHead, Width, "traits are read whatever item is the first";
+    NarrowSets, Width, "sets have one word on a wide board";
+    WideByHead, Width, "a traits word of 0 makes sets wide";
+    TraitsPass, Width, "traits that are not known pass";
+    TraitsPassAsWide, Width, "traits that are not known pass, and make sets wide";
+    TraitPasses, Width, "one trait that is not known, bit 9, passes";
+    TraitsBeforeAddress, Width, "traits are refused before the address";
+    TraitsAfterVerdict, Width, "traits are refused after a missing verdict";
+    BitsAcross, Width, "contest j is bit j div 8 of word j mod 8";
+    NumbersTo31, Width, "contest numbers go up to 31 on a wide board";
+    NumbersTo255, Width, "contest numbers go up to 255 on a narrow board";
+    TimesUnshifted, Width, "a wide round's times are read behind the first word of its set";
+    SessionsFirstWord, Width, "a session's set is read from its first word alone";
+    RoundsFirstWord, Width, "a round's set is read from its first word alone";
+    EmptyFirstWord, Width, "a set without a contest below 32 is refused as empty";
+    CryptogramsOfFirstWord, Width, "a ballot's cryptograms are counted from the first word of its set alone";
+    CryptogramsUnshifted, Width, "cryptograms are read behind the first word of a wide set";
+    FirstCryptograms, Width, "the low bits of a ballot's first 32 cryptograms alone are looked at";
+    CryptogramsTo200, Width, "cryptograms past the 200th are not looked at";
+    CryptogramsTo32, Width, "33 cryptograms are a misfit on a wide board";
+    CryptogramsTo256, Width, "33 cryptograms are no misfit on a narrow board";
+    WideTrustees, Width, "trustees are a set of eight words on a wide board";
+    GenesisOf17, Width, "a genesis of 18 words is a misfit";
+    LongGenesis, Width, "a genesis of 19 words is no misfit";
+    BallotsFirstWord, Contests, "contests of a ballot's later words pass unseen";
+    UndefinedLater, Contests, "contests of a set's later words need not be defined";
+    EmptySets, Contests, "a round or a session without contests passes";
+    CryptogramsUncounted, Contests, "a ballot's cryptograms are not counted";
 }
 
 /// The mistake that the stand-in makes.
@@ -195,8 +230,8 @@ fn with_ballots<T>(table: &mut [u32], run: impl FnOnce(&mut [u32]) -> T) -> T {
     }
 }
 
-/// The rules by which the stand-in audits: a mistake about openings, casts of opened ballots, or the roll makes
-/// one of them wrong.
+/// The rules by which the stand-in audits: a mistake about openings, casts of opened ballots, the roll, or contest
+/// sets makes one of them wrong.
 fn rules() -> Rules {
     let may_open: fn(&Opening) -> bool = match made() {
         Some(Mistake::SpoilNotAskedFor) => |_| true,
@@ -215,7 +250,19 @@ fn rules() -> Rules {
         Some(Mistake::CastOfOpened) => |history, ballot| !is_opened(history, ballot),
         _ => RULES.may_cast,
     };
-    Rules { may_open, may_cast, is_good_roll: rolls::roll_test(), is_enrolled: rolls::roll_search(), ..RULES }
+    Rules {
+        may_open,
+        may_cast,
+        is_good_roll: rolls::roll_test(),
+        is_enrolled: rolls::roll_search(),
+        sets: widths::set_rules(),
+        ..RULES
+    }
+}
+
+/// The refusal that tests in a wrong order give in place of this one.
+fn in_wrong_order(board: Board, number: u32, items: u32) -> u32 {
+    widths::in_wrong_order(board, rolls::in_wrong_order(board, number, items), items)
 }
 
 /// Whether a ballot has a voter opening on its track.
@@ -337,7 +384,7 @@ unsafe extern "C" fn stand_in_audit(
         if report.number == 0 {
             close_wrongly(board, index, Of::OneBoard);
         }
-        report.number = rolls::in_wrong_order(board, report.number, report.items);
+        report.number = in_wrong_order(board, report.number, report.items);
         report
     });
     finish(answer, answer_len, &audit_words(&report), [(index, index_len), (ballots, ballots_len)])
@@ -384,7 +431,7 @@ unsafe extern "C" fn stand_in_compare(
         let mut comparison = compare_with(rules(), kept, later, main_number, kept_tables, later_tables);
         if let Comparison::Refused { side, number, items } = &mut comparison {
             let board = if *side == Side::Kept { kept } else { later };
-            *number = rolls::in_wrong_order(board, *number, *items);
+            *number = in_wrong_order(board, *number, *items);
         }
         let refused = match comparison {
             Comparison::Refused { side, number, .. } if number != 19 => Some(side),
@@ -426,7 +473,7 @@ unsafe extern "C" fn stand_in_ancestry(
         if matches!(given.number, 0 | 19) {
             close_wrongly(board, index, Of::OneBoard);
         }
-        given.number = rolls::in_wrong_order(board, given.number, given.count);
+        given.number = in_wrong_order(board, given.number, given.count);
         given
     });
     let tables = [(list, list_len), (ballots, ballots_len)];

@@ -1,7 +1,8 @@
 //! What holds of an accepted board's tables, whoever filled them, told from the words of the board and of its
-//! roll alone: nothing of `audit` is used. The properties are in `closed`, `opened` and `enrolled`.
+//! roll alone: nothing of `audit` is used. The properties are in `closed`, `opened`, `enrolled` and `contests`.
 
 use crate::closed::*;
+use crate::contests::*;
 use crate::enrolled::*;
 use crate::format::*;
 use crate::opened::*;
@@ -14,6 +15,8 @@ const ROW_OF_BALLOTS: usize = 3;
 const ROW_OF_ROLL: usize = 2;
 const FIFTH: usize = 4;
 const NOT_IN_USE: u32 = 4_294_967_295;
+/// The head of a genesis with a word of traits.
+const HEAD_OF_TRAITS: u32 = 0x1001_0012;
 
 /// A voter with a weight.
 #[derive(Clone, Copy, PartialEq, Eq, Debug)]
@@ -31,8 +34,12 @@ impl Pair {
 
 /// The items of an accepted board as its words have them, its roll, and what its tables say of ballots. Items
 /// are numbered from 1, and have the place of their number less one here.
-pub struct Told {
+pub struct Told<'a> {
     pub codes: Vec<u32>,
+    pub contents: Vec<&'a [u32]>,
+    pub times: Vec<u64>,
+    /// The words of a contest set.
+    pub set_words: usize,
     /// The number of the first item with the address in the parent field, of those among which a type's
     /// parent is sought; 0 where there is none.
     pub parents: Vec<usize>,
@@ -50,7 +57,7 @@ pub struct Told {
 type Property = fn(&Told) -> Result<(), String>;
 
 /// What holds of the tables. Some of these follow from others; each is looked at by itself.
-pub const PROPERTIES: [Property; 11] = [
+pub const PROPERTIES: [Property; 16] = [
     any_two_differ,
     each_closer_is_named_once,
     only_ballots_have_one,
@@ -62,6 +69,11 @@ pub const PROPERTIES: [Property; 11] = [
     each_voter_has_one_weight,
     each_row_is_on_the_roll,
     weight_is_at_most_the_rolls,
+    each_set_has_a_contest,
+    each_contest_is_defined_before,
+    each_contest_has_a_cryptogram,
+    each_ballot_is_within_its_session,
+    each_ballot_is_enabled,
 ];
 
 /// Holds an accepted board's tables to all of them.
@@ -76,19 +88,10 @@ pub fn broken(words: &[u32], roll: &[u32], index: &[u32], ballots: &[u32]) -> Re
     Ok(PROPERTIES.map(|property| property(&told).is_err()))
 }
 
-impl Told {
+impl<'a> Told<'a> {
     /// Of tables in which there is a row for each item, some for ballots, and nothing else.
-    fn new(words: &[u32], roll: &[u32], index: &[u32], ballots: &[u32]) -> Result<Told, String> {
-        let rows = rows(ballots)?;
-        let mut told = Told {
-            codes: Vec::new(),
-            parents: Vec::new(),
-            fifth: Vec::new(),
-            counted: rows.iter().map(|row| row[0]).collect(),
-            rows: rows.iter().map(|row| Pair::at(&row[1..])).collect(),
-            sessions: Vec::new(),
-            roll: roll.chunks_exact(ROW_OF_ROLL).map(Pair::at).collect(),
-        };
+    fn new(words: &'a [u32], roll: &[u32], index: &[u32], ballots: &[u32]) -> Result<Told<'a>, String> {
+        let mut told = Told::without_items(words, roll, &rows(ballots)?);
         let (mut mains, mut hidden): (HashMap<&[u32], usize>, HashMap<&[u32], usize>) = Default::default();
         let mut rows = index.chunks(ROW_OF_INDEX);
         let mut place = 0;
@@ -99,6 +102,8 @@ impl Told {
             let sought = if code <= TRACK { &mains } else { &hidden };
             told.parents.push(sought.get(&words[parent..parent + 8]).copied().unwrap_or(0));
             told.codes.push(code);
+            told.contents.push(&words[place + 1..parent]);
+            told.times.push(u64::from(words[parent + 16]) << 32 | u64::from(words[parent + 17]));
             if code == SESSION {
                 told.sessions.push(Pair::at(&words[place + 1..]));
             }
@@ -116,6 +121,22 @@ impl Told {
         }
     }
 
+    /// Before its items are read.
+    fn without_items(words: &[u32], roll: &[u32], rows: &[&[u32]]) -> Told<'a> {
+        Told {
+            codes: Vec::new(),
+            contents: Vec::new(),
+            times: Vec::new(),
+            set_words: if words[0] == HEAD_OF_TRAITS && words[18] == 1 { 8 } else { 1 },
+            parents: Vec::new(),
+            fifth: Vec::new(),
+            counted: rows.iter().map(|row| row[0]).collect(),
+            rows: rows.iter().map(|row| Pair::at(&row[1..])).collect(),
+            sessions: Vec::new(),
+            roll: roll.chunks_exact(ROW_OF_ROLL).map(Pair::at).collect(),
+        }
+    }
+
     /// The type of an item; none where there is no such number.
     pub fn code(&self, number: usize) -> Option<u32> {
         self.codes.get(number.checked_sub(1)?).copied()
@@ -127,7 +148,7 @@ impl Told {
     }
 
     /// The numbers of the items of these types.
-    pub fn of<'a>(&'a self, codes: &'a [u32]) -> impl Iterator<Item = usize> + 'a {
+    pub fn of<'b>(&'b self, codes: &'b [u32]) -> impl Iterator<Item = usize> + 'b {
         (1..=self.codes.len()).filter(move |&number| codes.contains(&self.codes[number - 1]))
     }
 

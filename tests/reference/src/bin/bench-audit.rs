@@ -9,7 +9,8 @@
 //! milliseconds is nearly always interrupted. `spread` is the reference's median over its best.
 //! Where it is far from 1 the machine was too busy, and the row's ratios say little.
 //! `us/item` is the library's time for an item: boards of one kind have about as many words to
-//! an item, so it stays where the cost grows with the items and no faster.
+//! an item, so it stays where the cost grows with the items and no faster. `ns/word` is its time for a word of the
+//! board: the last two boards are as long, one with contest sets of one word, one with sets of eight.
 //!
 //! `full/own` is the library's time with the full roll over that with a roll of the board's voters alone.
 //!
@@ -24,7 +25,7 @@ use reference::program::bytes;
 use reference::random::Random;
 use reference::roll::{full_around, roll_of, voters_of};
 use reference::sha256::sha256;
-use reference::sound::{make, Shape};
+use reference::sound::{make_with, Shape, Traits};
 use std::fs;
 use std::hint::black_box;
 use std::path::Path;
@@ -71,20 +72,18 @@ fn main() {
             None => "is NOT linked",
         }
     );
-    println!("   items    words  reference   spread  hash only    library  lib/ref  lib/hash  us/item  full/own");
-    let shapes = [(100, None), (500, None), (2_048, None), (230, Some(16_384)), (2_048, Some(MAX_WORDS))];
+    println!(
+        "   items    words    sets  reference   spread  hash only    library  lib/ref  lib/hash  us/item  ns/word  full/own"
+    );
+    let narrow = [(100, None), (500, None), (2_048, None), (230, Some(16_384)), (2_048, Some(MAX_WORDS))];
+    let shapes = narrow.map(|(items, words)| (items, words, Traits::Unsaid));
     let mut met = true;
-    for (items, words) in shapes {
-        let shape = Shape { items, words, long: 10, voters: items / 8, extraction: true };
-        let random = &mut Random::new(2026);
-        let mut plan = make(random, sha256, shape).plan;
-        let voters = voters_of(&plan.items);
-        plan.roll = full_around(&voters, random);
-        let board = plan.lay(sha256);
+    for (items, words, traits) in shapes.into_iter().chain([(2_048, Some(MAX_WORDS), Traits::Wide)]) {
+        let (board, own_roll) = board(items, words, traits);
         if let Some(folder) = &folder {
             write(Path::new(folder), items, &board);
         }
-        met &= row(items, &board, &roll_of(voters));
+        met &= row(items, &board, &own_roll);
     }
     if !met {
         println!(
@@ -92,6 +91,24 @@ fn main() {
              full/own {BAR_TO_OWN_ROLL:.2}"
         );
         std::process::exit(1);
+    }
+}
+
+/// A board with a full roll, and the roll of its voters alone.
+fn board(items: usize, words: Option<usize>, traits: Traits) -> (Laid, Vec<u32>) {
+    let shape = Shape { items, words, long: 10, voters: items / 8, extraction: true };
+    let random = &mut Random::new(2026);
+    let mut plan = make_with(random, sha256, shape, traits).plan;
+    let voters = voters_of(&plan.items);
+    plan.roll = full_around(&voters, random);
+    (plan.lay(sha256), roll_of(voters))
+}
+
+/// How a board's contest sets are named.
+fn sets(words: &[u32]) -> &'static str {
+    match Width::of(words) {
+        Width::Narrow => "narrow",
+        Width::Wide => "wide",
     }
 }
 
@@ -130,18 +147,25 @@ fn row(items: usize, laid: &Laid, own_roll: &[u32]) -> bool {
     by_reference.sort_by(f64::total_cmp);
     let reference = by_reference[0];
     let spread = by_reference[rounds / 2] / reference;
-    let mut line = format!("{items:>8} {:>8} {reference:>10.1} {spread:>8.2} {hashes:>10.1}", words.len());
-    let (to_reference, to_hashes, to_own) = (by_library / reference, by_library / hashes, by_library / with_own);
-    let linked = library().is_some();
-    if linked {
-        let each = by_library / items as f64;
-        line += &format!(" {by_library:>10.1} {to_reference:>8.2} {to_hashes:>9.2} {each:>8.2} {to_own:>9.3}");
-    } else {
-        line += "          -        -         -        -         -";
+    let (count, sets) = (words.len(), sets(words));
+    print!("{items:>8} {count:>8} {sets:>7} {reference:>10.1} {spread:>8.2} {hashes:>10.1}");
+    match library() {
+        None => {
+            println!("          -        -         -        -        -         -");
+            true
+        }
+        Some(_) => within_bars(items, count, by_library, [reference, hashes, with_own]),
     }
-    println!("{line}");
+}
+
+/// Prints the library's part of a row. Whether its time, beside those of the reference, of the hashes alone and of its
+/// own roll alone, keeps within the bars.
+fn within_bars(items: usize, words: usize, time: f64, beside: [f64; 3]) -> bool {
+    let [to_reference, to_hashes, to_own] = beside.map(|other| time / other);
+    let (each, word) = (time / items as f64, 1e3 * time / words as f64);
+    println!(" {time:>10.1} {to_reference:>8.2} {to_hashes:>9.2} {each:>8.2} {word:>8.2} {to_own:>9.3}");
     let most_items = to_hashes <= BAR_TO_HASHES && to_own <= BAR_TO_OWN_ROLL;
-    !linked || to_reference <= BAR_TO_REFERENCE && (items < MAX_ITEMS || most_items)
+    to_reference <= BAR_TO_REFERENCE && (items < MAX_ITEMS || most_items)
 }
 
 /// The time of one audit by the library, which is to accept the board.
@@ -165,7 +189,7 @@ fn time_library(library: &Interface, board: Board, items: usize, index: &mut [u3
 }
 
 fn write(folder: &Path, items: usize, board: &Laid) {
-    let folder = folder.join(format!("{items}-items-{}-words", board.words.len()));
+    let folder = folder.join(format!("{items}-items-{}-words-{}", board.words.len(), sets(&board.words)));
     fs::create_dir_all(&folder).expect("a folder for the board");
     fs::write(folder.join("board.words"), bytes(&board.words)).expect("board.words");
     fs::write(folder.join("verdicts.words"), bytes(&board.verdicts)).expect("verdicts.words");

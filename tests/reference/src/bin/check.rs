@@ -9,17 +9,18 @@ use reference::audit::Board;
 use reference::calls::{Tally, APART, COLLISION, SAME, SHORT_ANSWER};
 use reference::checks::*;
 use reference::collisions;
-use reference::crowded::crowded;
+use reference::crowded::{all_contests, crowded};
 use reference::faults::bad_roll;
+use reference::format::Width;
 use reference::header::{check_header, check_header_mistakes};
 use reference::hidden::{bared, check_bared, check_hidden_tracks, Bared};
 use reference::interface::{library, Interface};
-use reference::program::{bytes, program};
+use reference::program::{bytes, program, PROGRAM_WORDS};
 use reference::random::Random;
-use reference::reached::{ROLLS_WANTED, WANTED};
+use reference::reached::{BLANK, ROLLS_WANTED, SETS_WANTED, WANTED};
 use reference::roll::{full_around, voters_of};
 use reference::sha256::{check_vectors, sha256};
-use reference::sound::Shape;
+use reference::sound::{Shape, Traits};
 use reference::stand_in::{make_mistake, stand_in, About, Mistake, MISTAKES};
 use reference::stored::check_folder;
 use reference::told::PROPERTIES;
@@ -170,16 +171,18 @@ fn stored_boards(options: &Options) -> usize {
 fn collision_boards() {
     let mut seen = collisions::Seen::default();
     for seed in 0..1_500 {
-        if let Err(message) = collisions::check(seed, &mut seen) {
+        let held = collisions::check(seed, &mut seen).and_then(|()| collisions::check_across(seed, &mut seen));
+        if let Err(message) = held {
             fail(&message);
         }
     }
-    if seen.same < 50 || seen.collision < 500 || seen.uneven < 100 || seen.apart < 500 {
+    if seen.across < 300 || seen.same < 50 || seen.collision < 500 || seen.uneven < 100 || seen.apart < 500 {
         fail(&format!("too few collisions were made: {seen:?}"));
     }
     println!(
-        "weak hash  {} collisions ({} at unequal main numbers), {} same, {} apart, as demanded",
-        seen.collision, seen.uneven, seen.same, seen.apart
+        "weak hash  {} collisions ({} at unequal main numbers, {} of a narrow and a wide board), {} same, {} apart, \
+         as demanded",
+        seen.collision, seen.uneven, seen.across, seen.same, seen.apart
     );
 }
 
@@ -201,7 +204,7 @@ fn hidden_tracks() {
 /// the boards.
 fn refused_mains() -> Vec<Bared> {
     let makers = Makers::default();
-    let boards: Vec<Bared> = (0..2_000).filter_map(|seed| bared(&makers, seed)).collect();
+    let boards: Vec<Bared> = (0..2_100).filter_map(|seed| bared(&makers, seed)).collect();
     for (side, with) in [("reference", Some(stand_in())), ("library", library())] {
         let held = with.map_or(Ok(()), |with| boards.iter().try_for_each(|bared| check_bared(&with, bared)));
         if let Err(message) = held {
@@ -220,42 +223,80 @@ fn refused_mains() -> Vec<Bared> {
     boards
 }
 
+/// The boards that the checks are tried with.
+struct Tried {
+    sound: Vec<Case>,
+    full: Vec<Case>,
+    openings: Vec<Case>,
+    casts: Vec<Case>,
+    bad_rolls: Vec<Case>,
+    unenrolled: Vec<Case>,
+    ordered: Vec<Case>,
+    widths: Vec<Case>,
+    contests: Vec<Case>,
+}
+
+impl Default for Tried {
+    fn default() -> Tried {
+        let makers = Makers::default();
+        let sound: Vec<Case> = (0..400).map(|seed| case(&makers, Group::Sound, seed)).collect();
+        let many = (0..4).map(|seed| case(&makers, Group::Contests, seed)).collect();
+        let of = |reason: &str| cases_of(&makers, reason, 6);
+        let traits = cases_of(&makers, "13/trait,", 2);
+        let all_contests = cases_of(&makers, "13/all contests,", 1);
+        Tried {
+            full: vec![case(&makers, Group::Full, 0)],
+            openings: of("11/opening"),
+            casts: of("12/cast after spoil and opening"),
+            bad_rolls: of("20/roll"),
+            unenrolled: of("21/roll"),
+            ordered: [of("13/roll"), of("21/roll, voter missing")].concat(),
+            widths: [of("/width,"), traits, all_contests, sound[..200].to_vec(), many].concat(),
+            contests: [of("13/width,"), of("without contests")].concat(),
+            sound,
+        }
+    }
+}
+
+impl Tried {
+    /// The boards and checks that are to find a mistake; without one, all of them.
+    fn by(&self, mistake: Option<Mistake>) -> Vec<(&[Case], [Check; 3])> {
+        let Some(mistake) = mistake else {
+            let others = [&self.openings, &self.casts, &self.bad_rolls, &self.unenrolled, &self.ordered];
+            let sets = [&self.widths, &self.contests];
+            let mut all: Vec<(&[Case], _)> = vec![(&self.full, FULL_LENGTHS), (&self.sound, TOLD)];
+            all.extend([&self.sound].into_iter().chain(others).chain(sets).map(|cases| (&cases[..], ANY_LENGTH)));
+            return all;
+        };
+        let alone = |cases| vec![(cases, ANY_LENGTH)];
+        let also_told = |cases| vec![(cases, ANY_LENGTH), (cases, TOLD)];
+        match mistake.about() {
+            About::Words | About::Refused => alone(&self.sound[..]),
+            About::Lengths => vec![(&self.full, FULL_LENGTHS)],
+            About::Closed => also_told(&self.sound[..]),
+            About::Accepted => also_told(&self.openings[..]),
+            About::Hidden => alone(&self.casts[..]),
+            About::BadRoll => alone(&self.bad_rolls[..]),
+            About::Unenrolled => also_told(&self.unenrolled[..]),
+            About::Order => alone(&self.ordered[..]),
+            About::Width => alone(&self.widths[..]),
+            About::Contests => also_told(&self.contests[..]),
+            About::OtherRoll => {
+                [&self.sound, &self.bad_rolls, &self.unenrolled].map(|cases| (&cases[..], ANY_LENGTH)).to_vec()
+            }
+        }
+    }
+}
+
 /// The checks themselves are tried on a stand-in that makes a mistake. Those about lengths are to be
 /// found with a full board, by the lengths that are always tried with it; those about who closed a
-/// ballot, and openings and sessions that pass, also without the reference.
+/// ballot, and openings, sessions and contests that pass, also without the reference.
 fn mistakes_are_found() {
-    let makers = Makers::default();
-    let sound: Vec<Case> = (0..400).map(|seed| case(&makers, Group::Sound, seed)).collect();
-    let full = [case(&makers, Group::Full, 0)];
-    let openings = cases_of(&makers, "11/opening");
-    let casts = cases_of(&makers, "12/cast after spoil and opening");
-    let bad_rolls = cases_of(&makers, "20/roll");
-    let unenrolled = cases_of(&makers, "21/roll");
-    let ordered = [cases_of(&makers, "13/roll"), cases_of(&makers, "21/roll, voter missing")].concat();
+    let boards = Tried::default();
     let mut broken = [0; PROPERTIES.len()];
     for mistake in [None].into_iter().chain(MISTAKES.iter().copied().map(Some)) {
         make_mistake(mistake);
-        let tried: &[(&[Case], [Check; 3])] = match mistake.map(Mistake::about) {
-            None => &[
-                (&sound, ANY_LENGTH),
-                (&full, FULL_LENGTHS),
-                (&sound, TOLD),
-                (&openings, ANY_LENGTH),
-                (&casts, ANY_LENGTH),
-                (&bad_rolls, ANY_LENGTH),
-                (&unenrolled, ANY_LENGTH),
-                (&ordered, ANY_LENGTH),
-            ],
-            Some(About::Words | About::Refused) => &[(&sound, ANY_LENGTH)],
-            Some(About::Lengths) => &[(&full, FULL_LENGTHS)],
-            Some(About::Closed) => &[(&sound, ANY_LENGTH), (&sound, TOLD)],
-            Some(About::Accepted) => &[(&openings, ANY_LENGTH), (&openings, TOLD)],
-            Some(About::Hidden) => &[(&casts, ANY_LENGTH)],
-            Some(About::BadRoll) => &[(&bad_rolls, ANY_LENGTH)],
-            Some(About::Unenrolled) => &[(&unenrolled, ANY_LENGTH), (&unenrolled, TOLD)],
-            Some(About::Order) => &[(&ordered, ANY_LENGTH)],
-            Some(About::OtherRoll) => &[(&sound, ANY_LENGTH), (&bad_rolls, ANY_LENGTH), (&unenrolled, ANY_LENGTH)],
-        };
+        let tried = boards.by(mistake);
         let found: Vec<[usize; 3]> = tried.iter().map(|&(cases, checks)| differences(cases, checks)).collect();
         let wanted = mistake.map_or([false; 3], entries);
         let right = found.iter().all(|times| times.map(|times| times > 0) == wanted);
@@ -286,23 +327,24 @@ fn entries(mistake: Mistake) -> [bool; 3] {
     }
 }
 
-/// Boards that are refused for a reason that starts so, some for each.
-fn cases_of(makers: &Makers, reason: &str) -> Vec<Case> {
-    let ways = (0..makers.faults.len()).filter(|&way| makers.faults[way].reason.starts_with(reason));
-    let seeds = ways.flat_map(|way| (0..6).map(move |turn| (way + turn * makers.faults.len()) as u64));
+/// Boards that are refused for a reason of which this is a part, so many for each; narrow and wide ones by turns.
+fn cases_of(makers: &Makers, reason: &str, turns: usize) -> Vec<Case> {
+    let ways = (0..makers.faults.len()).filter(|&way| makers.faults[way].reason.contains(reason));
+    let seeds = ways.flat_map(|way| (0..turns).map(move |turn| (way + turn * makers.faults.len()) as u64));
     seeds.map(|seed| case(makers, Group::Faults, seed)).collect()
 }
 
 /// Whether a mistake is to be found without the reference.
 fn found_alone(mistake: Mistake) -> bool {
-    matches!(mistake.about(), About::Closed | About::Accepted | About::Unenrolled)
+    matches!(mistake.about(), About::Closed | About::Accepted | About::Unenrolled | About::Contests)
 }
 
-/// The stored boards, too, are to find mistakes about who closed a ballot, about openings and about the roll. In
-/// their comparisons a board stands on both sides, and their tables are long enough.
+/// The stored boards, too, are to find mistakes about who closed a ballot, about openings, about the roll and about
+/// contest sets. In their comparisons a board stands on both sides, and their tables are long enough.
 fn stored_boards_find(options: &Options) {
     let wanted = |mistake: Mistake| match mistake.about() {
         About::Closed | About::Accepted | About::Refused | About::Unenrolled | About::Order => true,
+        About::Width | About::Contests => true,
         About::BadRoll => mistake != Mistake::RollBeforeLengths,
         _ => false,
     };
@@ -355,13 +397,14 @@ struct Counts {
     boards: usize,
     /// Of the full boards those that fill the ballot table, other sound ones, refused ones.
     full: [usize; 3],
-    /// The sound boards that show each thing that is wanted of ballots.
-    shown: [usize; WANTED.len()],
-    /// The boards that show each thing that is wanted of rolls.
-    rolls: [usize; ROLLS_WANTED.len()],
+    /// The sound boards that show each thing that is wanted of ballots, narrow ones and wide ones.
+    shown: [[usize; 2]; WANTED.len()],
+    /// The boards that show each thing that is wanted of rolls, and of contest sets.
+    rolls: [[usize; 2]; ROLLS_WANTED.len()],
+    sets: [usize; SETS_WANTED.len()],
     words: usize,
     by_number: BTreeMap<u32, usize>,
-    by_reason: BTreeMap<String, usize>,
+    by_reason: BTreeMap<(String, Width), usize>,
     audit: Tally,
     compare: Tally,
     ancestry: Tally,
@@ -387,23 +430,28 @@ fn run_case(
     counts.boards += 1;
     counts.words += case.words.len();
     if group == Group::Faults {
-        *counts.by_reason.entry(makers.fault(seed).reason.clone()).or_default() += 1;
+        let reason = (makers.fault(seed).reason.clone(), makers.width(seed));
+        *counts.by_reason.entry(reason).or_default() += 1;
     }
     Ok(())
 }
 
 /// Whether the reference says of a case what its making does.
 fn hold_reference(case: &Case, group: Group, counts: &mut Counts) -> Result<(), String> {
-    let number = check_known(case)?;
+    let (number, items) = check_known(case)?;
     *counts.by_number.entry(number).or_default() += 1;
     if group == Group::Full {
         let filled = check_full(case)?;
         counts.full[if filled { 0 } else { 1 + usize::from(number != 0) }] += 1;
     }
+    let width = Width::of(&case.words) as usize;
     for (times, is_shown) in counts.shown.iter_mut().zip(shown(case)) {
-        *times += usize::from(is_shown);
+        times[width] += usize::from(is_shown);
     }
     for (times, is_shown) in counts.rolls.iter_mut().zip(shown_of_roll(case, number)) {
+        times[width] += usize::from(is_shown);
+    }
+    for (times, is_shown) in counts.sets.iter_mut().zip(shown_of_sets(case, number, items)) {
         *times += usize::from(is_shown);
     }
     Ok(())
@@ -445,7 +493,7 @@ fn rolls_of_each_length(with: Option<Interface>) {
     let (mut numbers, random, tally) = (BTreeMap::new(), &mut Random::new(1), &mut Tally::default());
     let cases = roll_lengths();
     for case in &cases {
-        let held = check_known(case).and_then(|number| {
+        let held = check_known(case).and_then(|(number, _)| {
             *numbers.entry(number).or_insert(0) += 1;
             let checks = with.iter().flat_map(|with| ANY_LENGTH.map(|check| (with, check)));
             checks.into_iter().try_for_each(|(with, check)| check(with, case, random, tally))
@@ -464,7 +512,8 @@ fn shares(cases: u64) -> Vec<(Group, u64)> {
     vec![
         (Group::Long, 48.min(cases)),
         (Group::Full, 48.min(cases)),
-        (Group::Ballots, 16.min(cases)),
+        (Group::Ballots, 18.min(cases)),
+        (Group::Contests, 80.min(cases)),
         (Group::Sound, part(15)),
         (Group::Faults, part(40)),
         (Group::Order, part(15)),
@@ -478,7 +527,7 @@ fn cases(options: &Options, with: Option<Interface>) {
     let total = run_cases(options, with);
     print_reference(options, &total, start.elapsed().as_secs_f64());
     if options.cases >= 5_000 && !all_made(&total) {
-        fail("some refusal, reason, full board, sort of ballot or of roll was not made, or too rarely");
+        fail("some refusal, reason, full board, sort of ballot, of roll or of set was not made, or too rarely");
     }
     if let Some(with) = with {
         print_library(&with, &total);
@@ -528,21 +577,27 @@ fn print_reference(options: &Options, total: &Counts, seconds: f64) {
     let numbers: Vec<String> = total.by_number.iter().map(|(n, count)| format!("{n}:{count}")).collect();
     println!("           by refusal  {}", numbers.join(" "));
     let least = total.by_reason.values().min().copied().unwrap_or(0);
-    let reasons = Makers::default().faults.len();
-    println!("           by reason   {} of {reasons}, each at least {least} times", total.by_reason.len());
+    let ways = Makers::default().faults.len();
+    let (made, wanted) = (total.by_reason.len(), reasons());
+    println!("           by reason   {ways} ways; with their widths {made} of {wanted}, each at least {least} times");
     let [filled, fewer, refused] = total.full;
     println!(
         "           full        {filled} with {FULL} counted ballots fill a table of {FULL_TABLE} words, \
          {fewer} count fewer, {refused} are refused"
     );
-    let ballots = WANTED.iter().map(|(what, _)| *what).zip(total.shown);
-    let rolls = ROLLS_WANTED.iter().map(|(what, _)| *what).zip(total.rolls);
-    print_shown("ballots", ballots);
-    print_shown("rolls", rolls);
+    let each = |[narrow, wide]: [usize; 2]| format!("{narrow} + {wide}");
+    print_shown("ballots", WANTED.iter().map(|(what, _)| *what).zip(total.shown.map(each)));
+    print_shown("rolls", ROLLS_WANTED.iter().map(|(what, _)| *what).zip(total.rolls.map(each)));
+    print_shown("sets", SETS_WANTED.iter().map(|(what, _)| *what).zip(total.sets.map(|times| times.to_string())));
 }
 
-/// How many boards show each thing that is wanted.
-fn print_shown(title: &str, shown: impl Iterator<Item = (&'static str, usize)>) {
+/// How many ways there are to be refused, or to pass, those at two widths counted twice.
+fn reasons() -> usize {
+    Makers::default().faults.iter().map(|fault| if fault.width.is_some() { 1 } else { 2 }).sum()
+}
+
+/// How many boards show each thing that is wanted; narrow ones and wide ones where it is to be shown by both.
+fn print_shown(title: &str, shown: impl Iterator<Item = (&'static str, String)>) {
     for (at, (what, times)) in shown.enumerate() {
         let title = if at == 0 { title } else { "" };
         println!("           {title:<11} {times} boards: {what}");
@@ -553,10 +608,14 @@ fn print_shown(title: &str, shown: impl Iterator<Item = (&'static str, usize)>) 
 fn all_made(total: &Counts) -> bool {
     // All but 2, which takes a short table whatever the board is.
     let refusals = [1].into_iter().chain(3..=16).chain([18, 20, 21]).all(|n| total.by_number.contains_key(&n));
-    let reasons = total.by_reason.len() >= Makers::default().faults.len();
+    let reasons = total.by_reason.len() >= reasons();
     let [filled, fewer, refused] = total.full;
-    let ballots = total.shown.iter().chain(&total.rolls).all(|&times| times >= 5);
-    refusals && reasons && ballots && filled >= 5 && fewer >= 5 && refused >= 10
+    let at_both =
+        |what: &str, [narrow, wide]: [usize; 2]| narrow + wide >= 5 && narrow >= 1 && (wide >= 1 || what == BLANK);
+    let ballots = WANTED.iter().zip(total.shown).all(|((what, _), times)| at_both(what, times));
+    let rolls = ROLLS_WANTED.iter().zip(total.rolls).all(|((what, _), times)| at_both(what, times));
+    let sets = total.sets.iter().all(|&times| times >= 5);
+    refusals && reasons && ballots && rolls && sets && filled >= 5 && fewer >= 5 && refused >= 10
 }
 
 /// What each of the library's entries was held to, or that it has no such entry.
@@ -592,8 +651,10 @@ fn told(tally: &Tally) -> String {
 fn merge(total: &mut Counts, part: Counts) {
     total.boards += part.boards;
     total.words += part.words;
-    let totals = total.full.iter_mut().chain(&mut total.shown).chain(&mut total.rolls);
-    for (a, b) in totals.zip(part.full.into_iter().chain(part.shown).chain(part.rolls)) {
+    let by_width = total.shown.iter_mut().chain(&mut total.rolls).flatten();
+    let totals = total.full.iter_mut().chain(&mut total.sets).chain(by_width);
+    let of_part = part.shown.into_iter().chain(part.rolls).flatten();
+    for (a, b) in totals.zip(part.full.into_iter().chain(part.sets).chain(of_part)) {
         *a += b;
     }
     for (number, count) in part.by_number {
@@ -726,6 +787,23 @@ fn most_ballots(seed: u64) -> [Vec<u8>; 3] {
     [board, verdicts, roll]
 }
 
+/// The files of a board with all 256 contests and a ballot of all of them, which the program has room for.
+fn all_on_a_ballot(seed: u64) -> [Vec<u8>; 3] {
+    let mut random = Random::new(seed);
+    let laid = loop {
+        let laid = all_contests(&mut random, 1, Traits::Wide).plan.lay(sha256);
+        if laid.words.len() <= PROGRAM_WORDS {
+            break laid;
+        }
+    };
+    let files = [&laid.words, &laid.verdicts, &laid.roll].map(|words| bytes(words));
+    let printed = program(&files[0], &files[1], &files[2]);
+    if !printed.starts_with("accepted ") || printed.lines().count() != 1 + 1 {
+        fail(&format!("256 contests, seed {seed}: made sound, the reference prints {printed:?}"));
+    }
+    files
+}
+
 /// Runs the auditing program on made boards, and on files of odd sizes.
 fn programs(options: &Options, path: &Path) {
     let path = fs::canonicalize(path).unwrap_or_else(|e| fail(&format!("{}: {e}", path.display())));
@@ -740,6 +818,10 @@ fn programs(options: &Options, path: &Path) {
     for seed in 0..4 {
         let files = most_ballots(seed);
         auditor.hold("59 counted ballots", files.each_ref().map(|file| Some(&file[..])));
+    }
+    for seed in 0..4 {
+        let files = all_on_a_ballot(seed);
+        auditor.hold("256 contests", files.each_ref().map(|file| Some(&file[..])));
     }
     // The largest board that the program takes.
     for seed in 0..4 {

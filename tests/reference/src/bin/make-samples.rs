@@ -7,7 +7,7 @@ use reference::program::{bytes, program};
 use reference::random::Random;
 use reference::roll::{pairs_of, roll_of, voters_of};
 use reference::sha256::sha256;
-use reference::sound::{ballot_of, make, Made, Shape};
+use reference::sound::{ballot_of, make, make_with, Made, Shape, Traits};
 use std::fs;
 use std::path::Path;
 
@@ -65,6 +65,31 @@ fn main() {
     write(folder, "opening-before-spoil", &plan.lay(sha256));
 
     write_about_roll(folder, &made);
+    write(folder, "federation", &federation().plan.lay(sha256));
+}
+
+/// An election of forty contests, some with numbers above 31, and several rounds. Ballots have contests in more than
+/// one word of their set, and one is opened.
+fn federation() -> Made {
+    for seed in 1.. {
+        let shape = Shape { items: 130, words: None, long: 20, voters: 6, extraction: true };
+        let mut made = make_with(&mut Random::new(seed), sha256, shape, Traits::Wide);
+        let has = |code: u32| made.plan.items.iter().filter(move |s| s.code == code);
+        let contests = has(CONTEST).fold(Set::EMPTY, |set, s| set | Set::one(s.content[0]));
+        let several_words = has(BALLOT).filter(|s| {
+            let set = made.width.set(BALLOT, &s.content);
+            !set.first_word().is_empty() && !set.later_words().is_empty()
+        });
+        let small_weights = made.expected.ballots.iter().all(|row| row[2] < 10 && row[1] < 1000);
+        let year_2026 = made.plan.items[0].time > 1_700_000_000_000;
+        let whole = has(SERVER_OPENING).count() > 0 && has(CONFIRMATION).count() > 0 && has(ROUND).count() >= 3;
+        let fits = whole && contests.count() == 40 && several_words.count() >= 3;
+        if fits && small_weights && year_2026 && made.expected.ballots.len() >= 3 {
+            made.plan.roll = roll_of(voters_of(&made.plan.items));
+            return made;
+        }
+    }
+    unreachable!()
 }
 
 /// Writes the samples with a bad roll, or with a session that is not on it.

@@ -619,6 +619,8 @@ fn listed(ways: &[Way]) -> impl Iterator<Item = Fault> + '_ {
     ways.iter().map(|&(number, reason, change)| Fault {
         number,
         reason: format!("{number}/roll, {reason}"),
+        width: None,
+        all_contests: false,
         code: 0,
         change,
     })
@@ -631,11 +633,14 @@ fn unenrolled_faults() -> Vec<Fault> {
 /// All that is about the roll.
 pub fn roll_faults() -> Vec<Fault> {
     let mut list: Vec<Fault> = Vec::new();
+    let mut bad = |reason: String, code: u32, change: fn(&Made, u32, &mut Random) -> Change| {
+        list.push(Fault { number: 20, reason, width: None, all_contests: false, code, change });
+    };
     for (way, (reason, _)) in BAD.iter().enumerate() {
-        list.push(Fault { number: 20, reason: format!("20/roll, {reason}"), code: way as u32, change: bad_roll_alone });
+        bad(format!("20/roll, {reason}"), way as u32, bad_roll_alone);
     }
     for number in [3, 4, 5, 6, 7, 8, 9, 10, 11, 12, 13, 14, 15, 16, 18, 21] {
-        list.push(Fault { number: 20, reason: format!("20/roll, and {number}"), code: number, change: bad_roll_and });
+        bad(format!("20/roll, and {number}"), number, bad_roll_and);
     }
     list.extend(listed(UNENROLLED));
     list.extend(listed(SOUND));

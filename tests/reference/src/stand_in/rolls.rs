@@ -119,7 +119,7 @@ fn is_session_on_roll(board: Board, items: usize) -> bool {
 }
 
 /// Whether the item behind so many has nine verdict words, the first well formed.
-fn has_verdict(board: Board, items: usize) -> bool {
+pub fn has_verdict(board: Board, items: usize) -> bool {
     let verdict = board.verdicts.get(VERDICT_WORDS * items..VERDICT_WORDS * (items + 1));
     verdict.is_some_and(|words| words[0] & !1 == VERDICT << 28)
 }
