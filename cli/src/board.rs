@@ -1,5 +1,6 @@
 //! A board's words as items, to be shown and explained. What is read here decides nothing.
 
+use crate::format::Format;
 use crate::library::header::*;
 use crate::library::{self, Answer, Board, Tables};
 use crate::types::{of_code, Type};
@@ -37,16 +38,17 @@ impl Head {
     pub fn listed(self) -> Option<&'static Type> {
         of_code(self.code()).filter(|row| self.kind() == if row.hidden { HIDDEN } else { MAIN })
     }
-    /// The same, if the type has as many content words. Without that, where the next item stands is not known.
-    pub fn fitting(self) -> Option<&'static Type> {
-        self.listed().filter(|row| row.counts.fit(self.count() as u32))
+    /// The same, if the type has as many content words on a board of a format. Without that, where the next item stands is not known.
+    pub fn fitting(self, format: Format) -> Option<&'static Type> {
+        self.listed().filter(|row| row.counts.fit(format, self.count()))
     }
 }
 
-/// A whole item, and the place of its head.
+/// A whole item, the place of its head, and the format of its board.
 #[derive(Clone, Copy)]
 pub struct Item<'a> {
     pub place: usize,
+    pub format: Format,
     words: &'a [u32],
 }
 
@@ -54,7 +56,7 @@ impl<'a> Item<'a> {
     /// The item whose head stands at a place, if all its words are there.
     pub fn at(board: &'a [u32], place: usize) -> Option<Item<'a>> {
         let length = Head(*board.get(place)?).count() + FRAME;
-        Some(Item { place, words: board.get(place..place + length)? })
+        Some(Item { place, format: Format::of(board), words: board.get(place..place + length)? })
     }
 
     pub fn head(&self) -> Head {

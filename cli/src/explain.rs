@@ -13,8 +13,10 @@ mod phases;
 mod reasons;
 pub(crate) mod refused;
 mod roll;
+mod sets;
 mod sizes;
 mod text;
+mod widths;
 
 use crate::board::{items, Head, Item};
 use crate::files::Files;

@@ -35,6 +35,7 @@ pub const PURPOSE: &str = "audit the bulletin boards of elections";
 pub const INTRODUCTION: &[&str] = &[
     "tirfolma reads boards from files, has the proved library audit them, and prints what it says. Whether a board is sound the library alone decides: it is proved to accept a board if and only if the board meets the published rules.",
     "DIR is a folder with board.words, verdicts.words and roll.words: 32-bit words, four bytes each, high byte first. All three must be there; a file may be empty. A byte count that is no multiple of 4 is refused as 4 at 0. A board may have 262144 words and 2048 items, a roll 2048 voters; what is more is refused as 1 or 20. Behind the word -- a name may begin with a dash.",
+    "How wide a board's sets of contests are, its own first item tells: they have eight words, for contests 0 to 255, where it is a genesis of 18 content words whose last, the traits word, is 1, and else one word, for contests 0 to 31.",
 ];
 
 pub const COMMANDS: &[Command] = &[
@@ -115,12 +116,13 @@ pub const COMMANDS: &[Command] = &[
         takes: (1, 1),
         about: "show a board as a person reads it",
         text: &[
-            "Prints the auditor's answer and a line for each item: its number, main number, kind, type, time, the item numbers of its parent and its session, and for a ballot what closed it. Of a refused board, the item at which it is refused is marked by >, and what is wrong is said in words, as by audit --explain: no answer depends on it. Items after it were not audited: they are marked by ? and shown as far as their heads can be read. A - stands for what an item does not have, a ? for what the audit has not told of it.",
+            "Prints the auditor's answer, the traits word of a board that has one, and a line for each item: its number, main number, kind, type, time, the item numbers of its parent and its session, and for a ballot what closed it. Of a refused board, the item at which it is refused is marked by >, and what is wrong is said in words, as by audit --explain: no answer depends on it. Items after it were not audited: they are marked by ? and shown as far as their heads can be read. A - stands for what an item does not have, a ? for what the audit has not told of it.",
         ],
         options: &[JSON, HELP],
         keys: &[
             ("folder, folder_hex, answer, number, explanation", "as for audit, the explanation always"),
             ("passed", "how many items pass; of an accepted board all"),
+            ("traits", "only where the first item has a traits word: that word, which says how wide sets of contests are"),
             ("list", "an array of objects with the keys item, main, kind, code, type, place (of the head, in words from 0), time (milliseconds), date, parent, session, closed_by, and state: \"passed\", \"refused\" or \"not audited\". null is what an item does not have, and of an item that did not pass what the audit has not told"),
         ],
     },

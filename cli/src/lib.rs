@@ -2,7 +2,7 @@
 //!
 //! `library` has the calls, and `files` the one rule about files; what the other parts do decides nothing about a board.
 //! Reading: `args`, `folders`, `files`. The commands: `audit` (over `queue`), `compare`, `ancestry`, `show`.
-//! For people: `explain`, `board`, `types`, `times`, `names`, `json`, `output`, `help`.
+//! For people: `explain`, `board`, `format`, `types`, `times`, `names`, `json`, `output`, `help`.
 
 pub mod ancestry;
 pub mod args;
@@ -12,6 +12,7 @@ pub mod compare;
 pub mod explain;
 pub mod files;
 pub mod folders;
+pub mod format;
 pub mod help;
 pub mod json;
 pub mod library;

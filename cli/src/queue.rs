@@ -8,7 +8,7 @@ use std::time::Duration;
 /// How far a worker may be ahead of the result that is taken next: it bounds how many results wait.
 pub const AHEAD: usize = 32;
 
-/// The stack of a worker, whatever the environment says: an audit takes some 34 KiB of it.
+/// The stack of a worker, whatever the environment says: an audit takes some 38 KiB of it.
 const STACK: usize = 1 << 20;
 
 struct State<T> {

@@ -6,6 +6,7 @@ use crate::board::{Head, Item, Passed, FRAME, HIDDEN, MAIN};
 use crate::explain::refused::Refused;
 use crate::explain::{explain, is_about_item, reason, NOTE};
 use crate::files::Files;
+use crate::format::{traits, Format, TRAITS_PLACE, WIDE_CONTESTS};
 use crate::help::wrapped;
 use crate::json::{array, Object};
 use crate::library::{Answer, Refusal, Tables};
@@ -148,12 +149,13 @@ fn refused(files: &Files, refusal: Refusal) -> Vec<Row> {
             Ordering::Equal if item_is_wrong(files, refusal) => State::Refused,
             _ => State::NotAudited,
         };
-        if state != State::Refused && head.fitting().is_none() {
+        let fits = head.fitting(Format::of(words)).is_some();
+        if state != State::Refused && !fits {
             break;
         }
         main += usize::from(head.kind() == MAIN);
         rows.push(row(number, (head.kind() == MAIN).then_some(main), words, place, state));
-        if head.fitting().is_none() {
+        if !fits {
             break;
         }
         place = end(words, place);
@@ -179,6 +181,7 @@ fn item_is_wrong(files: &Files, refusal: Refusal) -> bool {
 
 fn page(folder: &Path, files: &Files, answer: Answer, rows: &[Row]) -> String {
     let mut text = format!("{}\t{}\n", shown(folder), answered(answer));
+    text += &traits(&files.board.words).map(traits_line).unwrap_or_default();
     text += "  item  main  kind    type               time                      parent  session  closed by\n";
     let (before, after) = rows.split_at(rows.iter().position(|row| row.state != State::Passed).unwrap_or(rows.len()));
     before.iter().for_each(|row| line(row, &mut text));
@@ -194,6 +197,16 @@ fn page(folder: &Path, files: &Files, answer: Answer, rows: &[Row]) -> String {
         text += NOTE;
     }
     text
+}
+
+/// The traits word of a board whose first item has one.
+fn traits_line(word: u32) -> String {
+    let meaning = match word {
+        0 => "sets of contests have one word",
+        WIDE_CONTESTS => "sets of contests have eight words",
+        _ => "only bit 0 has a meaning",
+    };
+    format!("  traits {word:08x} at word {TRAITS_PLACE}: {meaning}\n")
 }
 
 fn line(row: &Row, text: &mut String) {
@@ -242,6 +255,10 @@ fn object(folder: &Path, files: &Files, answer: Answer, rows: &[Row]) -> String 
             .number("number", refusal.number)
             .number("passed", refusal.items)
             .text("explanation", &explain(files, refusal)),
+    };
+    let object = match traits(&files.board.words) {
+        Some(word) => object.number("traits", word),
+        None => object,
     };
     object.value("list", &array(rows.iter().map(item))).end() + "\n"
 }

@@ -1,27 +1,43 @@
 //! The item types by name, for people. tests/types.rs holds kinds, codes and counts to the library.
 
+use crate::format::{Format, Members};
+
 /// How many content words an item of a type has.
 #[derive(Clone, Copy, Debug)]
 pub enum Counts {
-    Between(u32, u32),
-    /// One word with a set, then so many for each of its 1 to 32 members.
-    OneAndEach(u32),
+    Between(usize, usize),
+    /// So many words, and a set of contests.
+    AndContests(usize),
+    /// A set, then so many words for each of its members, of which there is one at least.
+    SetAndEach(Members, usize),
 }
 
 impl Counts {
-    pub fn fit(self, count: u32) -> bool {
+    pub fn fit(self, format: Format, count: usize) -> bool {
         match self {
             Counts::Between(least, most) => (least..=most).contains(&count),
-            Counts::OneAndEach(size) => (1..=32).any(|k| count == 1 + k * size),
+            Counts::AndContests(others) => count == others + format.words(Members::Contests),
+            Counts::SetAndEach(members, size) => {
+                (1..=format.numbers(members)).any(|k| count == format.words(members) + k * size)
+            }
         }
     }
 
-    pub fn in_words(self) -> String {
+    pub fn in_words(self, format: Format) -> String {
         match self {
             Counts::Between(least, most) if least == most => least.to_string(),
+            Counts::Between(least, most) if least + 1 == most => format!("{least} or {most}"),
             Counts::Between(least, most) => format!("{least} to {most}"),
-            Counts::OneAndEach(size) => format!("1 + {size} k, with k from 1 to 32"),
+            Counts::AndContests(others) => (others + format.words(Members::Contests)).to_string(),
+            Counts::SetAndEach(members, size) => {
+                format!("{} + {size} k, with k from 1 to {}", format.words(members), format.numbers(members))
+            }
         }
+    }
+
+    /// Whether they go by the board's format.
+    pub fn have_contests(self) -> bool {
+        matches!(self, Counts::AndContests(_) | Counts::SetAndEach(Members::Contests, _))
     }
 }
 
@@ -79,7 +95,8 @@ pub mod code {
 }
 
 use code::*;
-use Counts::{Between, OneAndEach};
+use Counts::{AndContests, Between, SetAndEach};
+use Members::{Contests, Trustees};
 use Parent::{LatestConfig, OfType, Zeros};
 use Writer::{Administrator, Authorizer, BallotBox, Verifier, Voter};
 
@@ -88,21 +105,21 @@ const fn row(code: u32, name: &'static str, writer: Writer, parent: Parent, coun
 }
 
 pub const TYPES: [Type; 19] = [
-    row(GENESIS, "genesis", Administrator, Zeros, Between(17, 17)),
+    row(GENESIS, "genesis", Administrator, Zeros, Between(17, 18)),
     row(TEXT, "election text", Administrator, LatestConfig, Between(0, 64)),
     row(CONTEST, "contest", Administrator, LatestConfig, Between(1, 65)),
     row(THRESHOLD, "threshold", Administrator, LatestConfig, Between(10, 10)),
     row(AUTHORIZER, "authorizer", Administrator, LatestConfig, Between(9, 9)),
-    row(ROUND, "round", Administrator, LatestConfig, Between(6, 6)),
-    row(SESSION, "session", Authorizer, LatestConfig, Between(19, 19)),
+    row(ROUND, "round", Administrator, LatestConfig, AndContests(5)),
+    row(SESSION, "session", Authorizer, LatestConfig, AndContests(18)),
     row(VOTER_COMMITMENT, "voter commitment", Voter, OfType(SESSION), Between(9, 9)),
     row(SERVER_COMMITMENT, "server commitment", BallotBox, OfType(VOTER_COMMITMENT), Between(9, 9)),
-    row(BALLOT, "ballot", Voter, OfType(SERVER_COMMITMENT), OneAndEach(17)),
+    row(BALLOT, "ballot", Voter, OfType(SERVER_COMMITMENT), SetAndEach(Contests, 17)),
     row(CAST, "cast", Voter, OfType(BALLOT), Between(0, 0)),
     row(SPOIL, "spoil", Voter, OfType(BALLOT), Between(0, 0)),
     row(INTENT, "extraction intent", Administrator, LatestConfig, Between(0, 0)),
     row(EXTRACTION, "extraction data", BallotBox, OfType(INTENT), Between(8, 8)),
-    row(CONFIRMATION, "confirmation", Administrator, OfType(EXTRACTION), OneAndEach(16)),
+    row(CONFIRMATION, "confirmation", Administrator, OfType(EXTRACTION), SetAndEach(Trustees, 16)),
     row(TRACK, "track start", BallotBox, OfType(BALLOT), Between(0, 0)),
     row(VERIFIER, "verifier", Verifier, OfType(TRACK), Between(8, 8)),
     row(VOTER_OPENING, "voter opening", Voter, OfType(VERIFIER), Between(1, 256)),

@@ -18,6 +18,10 @@ use std::path::{Path, PathBuf};
 use std::process::{Command, Output, Stdio};
 use std::sync::atomic::{AtomicUsize, Ordering};
 
+#[path = "common/widths.rs"]
+mod widths;
+use widths::{fits, set_words, traits};
+
 const FILES: [&str; 3] = ["board.words", "verdicts.words", "roll.words"];
 const HEADING: [&str; 8] = ["item", "main", "kind", "type", "time", "parent", "session", "closed by"];
 const KEYS: [&str; 12] =
@@ -105,6 +109,8 @@ struct Expected {
     passed: usize,
     /// Whether an item is at fault: the one behind those that pass.
     at_fault: bool,
+    /// The traits word, where the first item has one.
+    traits: Option<u32>,
     rows: Vec<Row>,
 }
 
@@ -131,12 +137,13 @@ impl Expected {
                 },
             ),
         };
-        let mut rows = by_heads(&board, passed, at_fault);
+        // No more words are read than show that there are too many.
+        let mut rows = by_heads(&board[..board.len().min(MAX_WORDS + 1)], passed, at_fault);
         // Where the words end behind the items that pass, no item is at fault.
         let at_fault = at_fault && rows.len() > passed;
         link(&board, &mut rows[..passed]);
         hold_to_reference(Board { words: &board, verdicts: &verdicts, roll: &roll }, &rows[..passed]);
-        Expected { answer, number: report.number, passed, at_fault, rows }
+        Expected { answer, number: report.number, passed, at_fault, traits: traits(&board), rows }
     }
 
     fn state(&self, item: usize) -> &'static str {
@@ -153,7 +160,7 @@ fn by_heads(board: &[u32], passed: usize, at_fault: bool) -> Vec<Row> {
     let (mut rows, mut place, mut mains) = (Vec::new(), 0, 0);
     while let Some(&head) = board.get(place) {
         let item = rows.len() + 1;
-        let readable = kind_of(code(head)) == Some(kind(head)) && count_fits(code(head), count(head));
+        let readable = kind_of(code(head)) == Some(kind(head)) && fits(set_words(board), code(head), count(head));
         if !readable && !(at_fault && item == passed + 1) {
             break;
         }
@@ -305,8 +312,16 @@ fn check_line(what: &str, line: &str, expected: &Expected, row: &Row) {
 
 fn check_page(what: &str, page: &str, name: &str, expected: &Expected) {
     assert!(page.ends_with('\n'), "{what}: the last line is whole");
-    let lines: Vec<&str> = page.lines().collect();
+    let mut lines: Vec<&str> = page.lines().collect();
     assert_eq!(lines[0], format!("{name}\t{}", expected.answer), "{what}: the first line");
+    if let Some(word) = expected.traits {
+        let meaning = match word {
+            0 => "sets of contests have one word",
+            1 => "sets of contests have eight words",
+            _ => "only bit 0 has a meaning",
+        };
+        assert_eq!(lines.remove(1), format!("  traits {word:08x} at word 18: {meaning}"), "{what}: the traits word");
+    }
     assert_eq!(columns(lines[1]), HEADING, "{what}: the heading");
     // What a refused board's page ends with.
     let note = lines.last().is_some_and(|line| line.contains("no answer depends on them"));
@@ -484,7 +499,11 @@ fn check_object(what: &str, line: &str, name: &str, expected: &Expected) {
     if !accepted {
         keys.extend(["number", "explanation"]);
     }
+    keys.extend(expected.traits.map(|_| "traits"));
     let mut object = members(what, Json::read(line), &keys);
+    if let Some(word) = expected.traits {
+        assert_eq!(object["traits"], Value::Number(word.into()), "{what}: traits");
+    }
     assert_eq!(object["folder"], text(name), "{what}: folder");
     assert_eq!(object["answer"], text(if accepted { "accepted" } else { "refused" }), "{what}: answer");
     assert_eq!(object["passed"], number_or_null(Some(expected.passed)), "{what}: passed");
@@ -546,7 +565,11 @@ fn sound_boards() {
 /// Each reason to refuse an item marks one; the others mark none.
 #[test]
 fn faulty_boards() {
-    let mut seen = check_group(Group::Faults, (0..150).map(|seed| 4 * seed));
+    let faults = Makers::default().faults;
+    let first = |number: u32| faults.iter().position(|fault| fault.number == number).expect("a fault");
+    let each = [3, 4].into_iter().chain(5..=16).chain([18, 20, 21]).map(first);
+    let seeds = (0..faults.len()).step_by(4).chain(each);
+    let mut seen = check_group(Group::Faults, seeds.map(|seed| seed as u64));
     seen.extend(check_group(Group::Order, 0..20));
     seen.extend(check_group(Group::Rules, 0..30));
     seen.extend(check_group(Group::Words, 0..60));

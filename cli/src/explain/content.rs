@@ -2,15 +2,17 @@
 
 use super::fields::*;
 use super::refused::{Numbered, Refused};
+use super::sets::Set;
 use super::text::{are, count, hex, list, place, start};
+use super::widths;
+use crate::format::{Format, Members, WIDE_CONTESTS};
 use crate::times::date;
 use crate::types::code::*;
 
 /// As many ballots are listed.
 const LISTED: usize = 8;
 
-/// The greatest numbers, and how many trustees there may be.
-const LAST_CONTEST: u32 = 31;
+/// The greatest number of a round, and how many trustees there may be.
 const LAST_ROUND: u32 = 15;
 const MOST_TRUSTEES: u32 = 32;
 
@@ -21,6 +23,7 @@ const SHARE: usize = 16;
 
 pub fn bad(refused: &Refused) -> Option<String> {
     match refused.code() {
+        GENESIS => bad_traits(refused),
         CONTEST => bad_contest(refused),
         THRESHOLD => bad_threshold(refused),
         AUTHORIZER => bad_mode(refused),
@@ -48,9 +51,29 @@ fn wrong(refused: &Refused, field: usize, name: &str, rule: &str) -> String {
     format!("has the {name} {} at {}, but {rule}. Look at this word", word(refused, field), at(refused, field))
 }
 
+/// The last word of a genesis that has a word more than others.
+fn bad_traits(refused: &Refused) -> Option<String> {
+    let traits = *refused.item.content().get(genesis::TRAITS)?;
+    (traits & !WIDE_CONTESTS != 0).then(|| {
+        let at = at(refused, genesis::TRAITS);
+        format!("has the traits {} at {at}, but only bit 0 of them may be set. Look at this word", hex(traits))
+    })
+}
+
+/// A number that no set of contests of the board has. It may be one of the other width.
 fn bad_contest(refused: &Refused) -> Option<String> {
-    let is_over = word(refused, contest::NUMBER) > LAST_CONTEST;
-    is_over.then(|| wrong(refused, contest::NUMBER, "contest number", &format!("it must be at most {LAST_CONTEST}")))
+    let (number, format) = (word(refused, contest::NUMBER), refused.item.format);
+    let last = |format: Format| format.numbers(Members::Contests) as u32 - 1;
+    let rule = format!("it must be at most {}", last(format));
+    let said = |rule: &str| wrong(refused, contest::NUMBER, "contest number", rule);
+    if number <= last(format) {
+        return None;
+    }
+    if number > last(format.other()) {
+        return Some(said(&rule));
+    }
+    let rule = widths::on_board(format, &rule) + &widths::would_fit(number as usize, format.other());
+    Some(said(&rule) + &widths::look(refused.board))
 }
 
 fn bad_threshold(refused: &Refused) -> Option<String> {
@@ -76,36 +99,37 @@ fn bad_round(refused: &Refused) -> Option<String> {
     if round_number(&refused.item) > LAST_ROUND {
         return Some(wrong(refused, round::NUMBER, "round number", &format!("it must be at most {LAST_ROUND}")));
     }
-    let [starts, ends] = [round::START, round::END].map(|field| time(&refused.item, field));
+    let [starts, ends] = start_and_end(&refused.item);
     if starts >= ends {
-        let (from, to) = (at(refused, round::START), at(refused, round::END));
+        let [from, to] = times_of_round(refused.item.format).map(|field| at(refused, field));
         let times = format!("starts at {} ({from}) and ends at {} ({to})", date(starts), date(ends));
         return Some(format!("{times}, but its start must be before its end. Look at these words"));
     }
-    bad_contests(refused, round::CONTESTS)
+    bad_contests(refused)
 }
 
 fn bad_session(refused: &Refused) -> Option<String> {
     if word(refused, session::WEIGHT) < 1 {
         return Some(wrong(refused, session::WEIGHT, "weight", "it must be at least 1"));
     }
-    bad_contests(refused, session::CONTESTS)
+    bad_contests(refused)
 }
 
 /// A set of contests that must not be empty, each defined before.
-fn bad_contests(refused: &Refused, field: usize) -> Option<String> {
-    let (set, at) = (word(refused, field), at(refused, field));
-    if set == 0 {
-        return Some(format!("has no contests: its set of contests, at {at}, is empty. Look at this word"));
+fn bad_contests(refused: &Refused) -> Option<String> {
+    let set = Set::of_contests(&refused.item);
+    if set.count() == 0 {
+        let look = if set.words() == 1 { "this word" } else { "these words" };
+        return Some(format!("has no contests: its set of contests, {}, is empty. Look at {look}", set.begins()));
     }
     let defines = |earlier: &Numbered, contest: u32| {
         earlier.item.code() == CONTEST && earlier.item.content()[contest::NUMBER] == contest
     };
-    let undefined = members(set).find(|&contest| !refused.earlier().any(|earlier| defines(&earlier, contest)))?;
+    let undefined = set.members().find(|&contest| !refused.earlier().any(|earlier| defines(&earlier, contest)))?;
     Some(format!(
-        "has contest {undefined} in its set of contests, {} at {at}, which no contest item before it defines. \
+        "has contest {undefined} in its set of contests, {}, which no contest item before it defines. \
          Look at this word, and at the contests",
-        hex(set)
+        set.word_of(undefined)
     ))
 }
 
@@ -122,44 +146,45 @@ fn low_bits(refused: &Refused, field: usize, bits: u32, name: &str) -> Option<St
     })
 }
 
-/// A set in the first content word, and a part for each member behind it.
-fn parts(refused: &Refused, member: &str, part: &str, size: usize) -> Option<String> {
-    let set = word(refused, SET);
-    let (members, parts) = (set.count_ones(), (refused.item.content().len() - 1) / size);
-    (parts != members as usize).then(|| {
+/// A set that the content begins with, and a part for each member behind it.
+fn parts(refused: &Refused, set: Set, member: &str, part: &str, size: usize) -> Option<String> {
+    let parts = (refused.item.content().len() - set.words()) / size;
+    (parts != set.count() as usize).then(|| {
         format!(
-            "has {} in its set, {} at {}, but {}. Look at the set, and at the number of content words",
-            count(members.into(), member),
-            hex(set),
-            at(refused, SET),
+            "has {} in its set, {}, but {}. Look at the set, and at the number of content words",
+            count(set.count().into(), member),
+            set.named(),
             count(parts as u64, part)
         )
     })
 }
 
 fn bad_ballot(refused: &Refused) -> Option<String> {
-    parts(refused, "contest", "cryptogram", CRYPTOGRAM)
-        .or_else(|| members(word(refused, SET)).find_map(|contest| may_not_vote(refused, contest)))
-        .or_else(|| {
-            let count = word(refused, SET).count_ones() as usize;
-            (1..=count).find_map(|k| low_bits(refused, k * CRYPTOGRAM, 16, &format!("the last word of cryptogram {k}")))
-        })
+    let set = Set::of_contests(&refused.item);
+    parts(refused, set, "contest", "cryptogram", CRYPTOGRAM)
+        .or_else(|| set.members().find_map(|contest| may_not_vote(refused, contest)))
+        .or_else(|| (1..=set.count() as usize).find_map(|k| bad_cryptogram(refused, set, k)))
+}
+
+/// The cryptograms, from 1 on, stand behind the set.
+fn bad_cryptogram(refused: &Refused, set: Set, k: usize) -> Option<String> {
+    let last = set.words() + k * CRYPTOGRAM - 1;
+    low_bits(refused, last, 16, &format!("the last word of cryptogram {k}"))
 }
 
 /// A contest that is not in the session's set, or that no open round enables.
 fn may_not_vote(refused: &Refused, contest: u32) -> Option<String> {
-    let has = |set: u32| set >> contest & 1 == 1;
     let session = refused.session()?;
-    let given =
-        format!("has contest {contest} in its set of contests, {} at {}", hex(word(refused, SET)), at(refused, SET));
-    if !has(session.item.content()[session::CONTESTS]) {
+    let set = Set::of_contests(&refused.item);
+    let given = format!("has contest {contest} in its set of contests, {}", set.word_of(contest));
+    if !Set::of_contests(&session.item).has(contest) {
         return Some(format!(
             "{given}, but its session, item {}, does not have that contest. Look at both sets",
             session.number
         ));
     }
     let now = refused.item.time();
-    let enables = |round: &Numbered| is_open(&round.item, now) && has(round.item.content()[round::CONTESTS]);
+    let enables = |round: &Numbered| is_open(&round.item, now) && Set::of_contests(&round.item).has(contest);
     let is_enabled = rounds(refused).iter().any(enables);
     (!is_enabled).then(|| {
         format!(
@@ -205,21 +230,21 @@ fn counted(refused: &Refused) -> Vec<usize> {
 }
 
 fn bad_confirmation(refused: &Refused) -> Option<String> {
-    parts(refused, "trustee", "trustee share", SHARE).or_else(|| trustees(refused))
+    let set = Set::of_trustees(&refused.item);
+    parts(refused, set, "trustee", "trustee share", SHARE).or_else(|| trustees(refused, set))
 }
 
 /// Numbers below that of trustees, and as many of them as are needed.
-fn trustees(refused: &Refused) -> Option<String> {
+fn trustees(refused: &Refused, set: Set) -> Option<String> {
     let threshold = refused.first(THRESHOLD)?;
     let [most, needed] = [threshold::TRUSTEES, threshold::NEEDED].map(|field| threshold.item.content()[field]);
-    let set = word(refused, SET);
-    let given = format!("in its set, {} at {}", hex(set), at(refused, SET));
-    if let Some(over) = members(set).find(|&trustee| trustee >= most) {
+    let given = format!("in its set, {}", set.named());
+    if let Some(over) = set.members().find(|&trustee| trustee >= most) {
         let rule = format!("by the threshold, item {}, numbers are below {most}", threshold.number);
         return Some(format!("has trustee {over} {given}, but {rule}. Look at this word"));
     }
-    let has = count(set.count_ones().into(), "trustee");
-    (set.count_ones() < needed).then(|| {
+    let has = count(set.count().into(), "trustee");
+    (set.count() < needed).then(|| {
         format!(
             "has {has} {given}, but {needed} are needed by the threshold, item {}. Look at this word",
             threshold.number

@@ -2,6 +2,7 @@
 
 use super::refused::{Numbered, Refused};
 use crate::board::{pair, Item};
+use crate::format::{Format, Members};
 use crate::types::code::ROUND;
 
 /// The words of a key fingerprint.
@@ -11,6 +12,8 @@ pub const KEY: usize = 8;
 pub mod genesis {
     pub const ADMINISTRATOR: usize = 1;
     pub const BALLOT_BOX: usize = 9;
+    /// Where there are so many words.
+    pub const TRAITS: usize = 17;
 }
 pub mod contest {
     pub const NUMBER: usize = 0;
@@ -27,8 +30,6 @@ pub mod authorizer {
 pub mod round {
     pub const NUMBER: usize = 0;
     pub const CONTESTS: usize = 1;
-    pub const START: usize = 2;
-    pub const END: usize = 4;
 }
 pub mod session {
     pub const VOTER: usize = 0;
@@ -42,17 +43,18 @@ pub mod verifier {
 /// The set that a ballot, a confirmation begins with.
 pub const SET: usize = 0;
 
+/// Where the start and the end of a round stand: behind its set of contests.
+pub fn times_of_round(format: Format) -> [usize; 2] {
+    let start = round::CONTESTS + format.words(Members::Contests);
+    [start, start + 2]
+}
+
 pub fn time(item: &Item, field: usize) -> u64 {
     pair(&item.content()[field..])
 }
 
 pub fn key<'a>(item: &Item<'a>, field: usize) -> &'a [u32] {
     &item.content()[field..field + KEY]
-}
-
-/// The numbers in a set, from the least.
-pub fn members(set: u32) -> impl Iterator<Item = u32> {
-    (0..u32::BITS).filter(move |&j| set >> j & 1 == 1)
 }
 
 pub fn round_number(round: &Item) -> u32 {
@@ -69,6 +71,12 @@ pub fn rounds<'a>(refused: &Refused<'a>) -> Vec<Numbered<'a>> {
     rounds
 }
 
+/// When a round starts and ends.
+pub fn start_and_end(round: &Item) -> [u64; 2] {
+    times_of_round(round.format).map(|field| time(round, field))
+}
+
 pub fn is_open(round: &Item, at: u64) -> bool {
-    time(round, round::START) <= at && at < time(round, round::END)
+    let [start, end] = start_and_end(round);
+    start <= at && at < end
 }

@@ -2,9 +2,11 @@
 
 use super::head_behind;
 use super::text::{self, count, hex, kind, one, refused_item};
+use super::widths;
 use crate::board::{Head, CLOSING, HIDDEN, MAIN};
 use crate::files::Files;
-use crate::types;
+use crate::format::Format;
+use crate::types::{self, Type};
 
 /// 5: a kind that no item has, or a type that is not listed under it.
 pub fn unknown(files: &Files, items: u32) -> Option<String> {
@@ -35,13 +37,27 @@ fn unlisted(head: Head) -> String {
 /// 6: a number of content words that the type does not have.
 pub fn wrong_count(files: &Files, items: u32) -> Option<String> {
     let (head, at) = head_behind(files, items)?;
-    let row = head.listed().filter(|row| !row.counts.fit(head.count() as u32))?;
+    let board = &files.board.words;
+    let row = head.listed().filter(|row| !row.counts.fit(Format::of(board), head.count()))?;
+    let (rule, look) = counts(board, row, head.count());
     Some(format!(
-        "{} has {} by its head {}, but {} has {}. Look at the low 16 bits of the head",
+        "{} has {} by its head {}, but {rule}. Look at the low 16 bits of the head{look}",
         refused_item(items as usize + 1, Some(row.name), at),
         count(head.count() as u64, "content word"),
-        hex(head.0),
-        one(row.code),
-        row.counts.in_words()
+        hex(head.0)
     ))
+}
+
+/// The numbers that a type has, and what else to look at where another would fit the other width of sets.
+fn counts(board: &[u32], row: &Type, given: usize) -> (String, String) {
+    let format = Format::of(board);
+    let rule = format!("{} has {}", one(row.code), row.counts.in_words(format));
+    if !row.counts.have_contests() {
+        return (rule, String::new());
+    }
+    let rule = widths::on_board(format, &rule);
+    match row.counts.fit(format.other(), given) {
+        true => (rule + &widths::would_fit(given, format.other()), widths::look(board)),
+        false => (rule, String::new()),
+    }
 }

@@ -1,6 +1,6 @@
 //! Refusal 11: what may stand when. The rules in the order of the model's `Phase`.
 
-use super::fields::{is_open, round, round_number, rounds, session, time};
+use super::fields::{is_open, round_number, rounds, session, start_and_end};
 use super::refused::{Numbered, Refused};
 use super::text::list;
 use crate::times::date;
@@ -43,7 +43,7 @@ fn no_open_round(refused: &Refused) -> Option<String> {
 }
 
 fn in_force(round: &Numbered) -> String {
-    let [start, end] = [round::START, round::END].map(|field| date(time(&round.item, field)));
+    let [start, end] = start_and_end(&round.item).map(date);
     format!("round {} (item {}) from {start} until {end}", round_number(&round.item), round.number)
 }
 

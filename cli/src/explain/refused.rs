@@ -25,13 +25,13 @@ pub struct Refused<'a> {
     pub passed: Passed<'a>,
     pub item: Item<'a>,
     pub row: &'static Type,
-    board: &'a [u32],
+    pub board: &'a [u32],
 }
 
 /// The whole item at a place, if its head is as the table of types has it. Its content words may then be read by their places.
 fn readable(board: &[u32], place: usize) -> Option<(Item<'_>, &'static Type)> {
     let item = Item::at(board, place)?;
-    Some((item, item.head().fitting()?))
+    Some((item, item.head().fitting(item.format)?))
 }
 
 impl<'a> Refused<'a> {

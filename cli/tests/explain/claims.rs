@@ -60,7 +60,8 @@ impl Claims<'_> {
     fn named_fields(&self) -> Result<(), String> {
         self.places()?;
         self.starts()?;
-        self.names()
+        self.names()?;
+        self.widths()
     }
     pub fn item(&self) -> &Item {
         &self.items[self.at]
@@ -214,13 +215,10 @@ impl Claims<'_> {
     fn no_round_open(&self) -> Result<(), String> {
         let (item, rounds) = (self.item(), self.rounds());
         so(is_voting(item.code) && self.says(&format!("at its time, {}", date(item.time))), "its time")?;
-        so(
-            rounds.iter().all(|r| item.time < time(&r.content, 2) || time(&r.content, 4) <= item.time),
-            "no round is open",
-        )?;
+        so(!rounds.iter().any(|r| r.is_open(item.time)), "no round is open")?;
         so(self.says("no round item stands before it") == rounds.is_empty(), "there is no round")?;
         for r in rounds.iter().take(3) {
-            let (start, end) = (date(time(&r.content, 2)), date(time(&r.content, 4)));
+            let [start, end] = r.times().map(|(_, time)| date(time));
             let says = format!("round {} (item {}) from {start} until {end}", r.content[0], r.number);
             so(self.says(&says), &says)?;
         }

@@ -6,8 +6,11 @@ use reference::format::*;
 use reference::sha256::sha256;
 use tirfolma::times::date;
 
-fn has(set: u32, number: u32) -> bool {
-    number < 32 && set >> number & 1 == 1
+/// What is said of a contest in a set, up to the place of the set's word that has it.
+pub fn contest_in_set(item: &Item, contest: usize) -> String {
+    let word = item.content[item.set_field() + contest / 32];
+    let bit = if item.set == 1 { String::new() } else { format!("bit {} of ", contest % 32) };
+    format!("has contest {contest} in its set of contests, {bit}{word:08x} at ")
 }
 
 /// "1 contest" or "2 contests".
@@ -19,12 +22,13 @@ impl Claims<'_> {
     pub fn content(&self) -> Result<(), String> {
         let c = &self.item().content;
         match self.item().code {
-            CONTEST => self.rule(c[0] > 31, "contest number", c[0], "it must be at most 31"),
+            GENESIS => self.traits(),
+            CONTEST => self.contest_number(c[0] as usize),
             THRESHOLD => self.threshold(c[0], c[1]),
             AUTHORIZER => self.rule(c[0] != 1 && c[0] != 2, "mode", c[0], "it must be 1 (identity) or 2 (credential)"),
             ROUND => self.round(),
             SESSION if c[1] == 0 => self.rule(true, "weight", 0, "it must be at least 1"),
-            SESSION => self.contests(c[18]),
+            SESSION => self.contests(),
             VOTER_COMMITMENT | SERVER_COMMITMENT => self.low_bits(c[8], 24, "its last content word"),
             BALLOT => self.ballot(),
             EXTRACTION => self.fingerprint(),
@@ -36,7 +40,29 @@ impl Claims<'_> {
     /// A word's value, and the rule that it breaks.
     fn rule(&self, is_broken: bool, name: &str, value: u32, rule: &str) -> Result<(), String> {
         so(is_broken && self.says(&format!("has the {name} {value} at word ")), &format!("the {name} is {value}"))?;
-        so(self.says(&format!(", but {rule}. Look at this word.")), rule)
+        so(self.text.ends_with(&format!(", but {rule}. Look at this word.")), rule)
+    }
+
+    /// A number that sets of the other width have goes by the width of the board.
+    fn contest_number(&self, number: usize) -> Result<(), String> {
+        let set = self.item().set;
+        let rule = format!("it must be at most {}", 32 * set - 1);
+        if set == 8 || number > 255 {
+            return self.rule(number >= 32 * set, "contest number", number as u32, &rule);
+        }
+        so(number > 31 && self.says(&format!("has the contest number {number} at word ")), "its number")?;
+        let (fit, look) = (self.fits_other(number), self.look_at_width());
+        let says =
+            format!(", but on this board, whose sets of contests have one word, {rule}{fit}. Look at this word{look}.");
+        so(self.text.ends_with(&says), &says)
+    }
+
+    fn traits(&self) -> Result<(), String> {
+        let item = self.item();
+        so(item.number == 1 && item.content.len() == 18 && item.content[17] > 1, "a word with other bits")?;
+        let says =
+            format!("has the traits {:08x} at word 18, byte 72, but only bit 0 of them may be set", item.content[17]);
+        so(self.says(&format!("{says}. Look at this word.")), &says)
     }
 
     fn threshold(&self, trustees: u32, needed: u32) -> Result<(), String> {
@@ -51,12 +77,12 @@ impl Claims<'_> {
 
     fn round(&self) -> Result<(), String> {
         let c = &self.item().content;
-        let (starts, ends) = (time(c, 2), time(c, 4));
+        let [(_, starts), (_, ends)] = self.item().times();
         if c[0] > 15 {
             return self.rule(true, "round number", c[0], "it must be at most 15");
         }
         if starts < ends {
-            return self.contests(c[1]);
+            return self.contests();
         }
         so(self.says(&format!("starts at {} (word ", date(starts))), "its start")?;
         so(self.says(&format!(") and ends at {} (word ", date(ends))), "its end")?;
@@ -64,22 +90,24 @@ impl Claims<'_> {
     }
 
     /// Of a round or a session.
-    fn contests(&self, set: u32) -> Result<(), String> {
-        if set == 0 {
-            let is_said = self.says("has no contests: its set of contests, at word ");
-            return so(is_said && self.says(", is empty. Look at this word."), "an empty set");
+    fn contests(&self) -> Result<(), String> {
+        let item = self.item();
+        if item.contests().is_empty() {
+            let (words, look) = if item.set == 1 { ("", "this word") } else { ("8 words ", "these words") };
+            let is_said = self.says(&format!("has no contests: its set of contests, {words}at word "));
+            return so(is_said && self.says(&format!(", is empty. Look at {look}.")), "an empty set");
         }
-        let contest = self.contest(set)?;
-        let defines = |i: &Item| i.code == CONTEST && i.content[0] == contest;
+        let contest = self.contest()?;
+        let defines = |i: &Item| i.code == CONTEST && i.content[0] as usize == contest;
         so(self.says(", which no contest item before it defines. "), "the rule of its contests")?;
         so(!self.before().iter().any(defines), "the contest is not defined")
     }
 
-    /// The contest that is named, one of the set, which is named too.
-    fn contest(&self, set: u32) -> Result<u32, String> {
-        let contest =
-            (0..32).find(|j| self.says(&format!("has contest {j} in its set of contests, {set:08x} at word ")));
-        contest.filter(|&contest| has(set, contest)).ok_or("no contest of the set".to_string())
+    /// The contest that is named, one of the set, whose word is named too.
+    fn contest(&self) -> Result<usize, String> {
+        let item = self.item();
+        let is_named = |&j: &usize| self.says(&format!("{}word ", contest_in_set(item, j)));
+        item.contests().into_iter().find(is_named).ok_or("no contest of the set".to_string())
     }
 
     fn low_bits(&self, word: u32, bits: u32, name: &str) -> Result<(), String> {
@@ -88,14 +116,12 @@ impl Claims<'_> {
         so(self.says(&format!(", but the low {bits} bits of that word must be zero. Look at this word.")), "the bits")
     }
 
-    /// Whether another number of parts than of members is claimed.
-    fn parts(&self, member: &str, part: &str, size: usize) -> Result<bool, String> {
-        let c = &self.item().content;
-        let (members, parts) = (c[0].count_ones() as usize, (c.len() - 1) / size);
+    /// Whether another number of parts than of members is claimed. The set is told as `set` has it.
+    fn parts(&self, members: usize, member: &str, parts: usize, part: &str, set: &str) -> Result<bool, String> {
         if members == parts {
             return Ok(false);
         }
-        let set = format!("has {} in its set, {:08x} at word ", counted(members, member), c[0]);
+        let set = format!("has {} in its set, {set}at word ", counted(members, member));
         so(self.says(&set), &set)?;
         let but = format!(", but {}. Look at the set, ", counted(parts, part));
         so(self.says(&but), &but).map(|()| true)
@@ -103,35 +129,35 @@ impl Claims<'_> {
 
     fn ballot(&self) -> Result<(), String> {
         let item = self.item();
-        if self.parts("contest", "cryptogram", CRYPTOGRAM)? {
+        let set = if item.set == 1 { format!("{:08x} ", item.content[0]) } else { "8 words ".to_string() };
+        if self.parts(item.contests().len(), "contest", item.cryptograms(), "cryptogram", &set)? {
             return Ok(());
         }
         if self.says(" as the last word of cryptogram ") {
-            let is_set = |k: &usize| item.content[CRYPTOGRAM * k] & 0xffff != 0;
-            let k = (1..=item.content.len() / CRYPTOGRAM).find(is_set).ok_or("no bit is set")?;
-            return self.low_bits(item.content[CRYPTOGRAM * k], 16, &format!("the last word of cryptogram {k}"));
+            let last = |k: usize| item.content[item.cryptogram_end(k)];
+            let k = (1..=item.cryptograms()).find(|&k| last(k) & 0xffff != 0).ok_or("no bit is set")?;
+            return self.low_bits(last(k), 16, &format!("the last word of cryptogram {k}"));
         }
-        let contest = self.contest(item.content[0])?;
+        let contest = self.contest()?;
         let session = self.session_of(item).ok_or("no session")?;
-        if !has(session.content[18], contest) {
+        if !session.contests().contains(&contest) {
             let says = format!(", but its session, item {}, does not have that contest. ", session.number);
             return so(self.says(&says), &says);
         }
-        let is_open = |r: &Item| time(&r.content, 2) <= item.time && item.time < time(&r.content, 4);
-        let enables = |r: &&Item| is_open(r) && has(r.content[1], contest);
+        let enables = |r: &&Item| r.is_open(item.time) && r.contests().contains(&contest);
         so(!self.rounds().iter().any(enables), "no round enables it")?;
         let says = format!(", but no round that is open at its time, {}, enables that contest. ", date(item.time));
         so(self.says(&says), &says)
     }
 
     fn confirmation(&self) -> Result<(), String> {
-        if self.parts("trustee", "trustee share", TRUSTEE)? {
+        let (set, shares) = (self.item().content[0], (self.item().content.len() - 1) / TRUSTEE);
+        if self.parts(set.count_ones() as usize, "trustee", shares, "trustee share", &format!("{set:08x} "))? {
             return Ok(());
         }
-        let set = self.item().content[0];
         let threshold = self.before().iter().find(|i| i.code == THRESHOLD).ok_or("no threshold")?;
         let (most, needed) = (threshold.content[0], threshold.content[1]);
-        let (trustee, rule) = match (0..32).find(|&j| has(set, j) && j >= most) {
+        let (trustee, rule) = match (0..32).find(|&j| set >> j & 1 == 1 && j >= most) {
             Some(over) => (
                 format!("has trustee {over} in its set, "),
                 format!(", but by the threshold, item {}, numbers are below {most}. ", threshold.number),

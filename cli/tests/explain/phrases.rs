@@ -24,9 +24,17 @@ const CAST_OR_OPEN: &[&str] = &[CAST[0], OPEN[0]];
 const NOT_SPOILED: &[&str] = &[CAST[0], OPEN[0], "stands behind the opening"];
 const ROUNDS: &[&str] = &["at what is in force: round "];
 const START: &[&str] = &["but its start must be before its end"];
-const EMPTY: &[&str] = &["its set of contests, at word "];
+const EMPTY: &[&str] = &["its set of contests, at word ", "its set of contests, 8 words at word "];
 const UNDEFINED: &[&str] = &["which no contest item before it defines"];
 const ENABLED: &[&str] = &["enables that contest"];
+const SESSION: &[&str] = &["does not have that contest"];
+const NUMBER: &[&str] = &["but it must be at most 31. ", "but it must be at most 255. ", ", it must be at most 31; "];
+const CRYPTOGRAM_COUNT: &[&str] = &[
+    "with k from 1 to 32. Look at the low 16 bits of the head.",
+    "with k from 1 to 256. Look at the low 16 bits of the head.",
+];
+const TRAITS: &[&str] = &["but only bit 0 of them may be set"];
+const CRYPTOGRAMS: &[&str] = &[" cryptogram. ", " cryptograms. "];
 const COUNTED: &[&str] = &["that is not the SHA-256 of the content", "that is not the SHA-256 of the empty message"];
 const BELOW: &[&str] = &["numbers are below "];
 const BITS: &[&str] = &["bits of that word must be zero"];
@@ -43,6 +51,7 @@ const ROWS: &[Row] = &[
     ("4/one word short", &["runs past the end of the file"]),
     ("4/no closing word", &["without a closing word"]),
     ("4/roll, voter missing", &["runs past the end of the file"]),
+    ("4/width, ", &["runs past the end of the file"]),
     ("5/kind", &["but an item has kind 1 (main) or kind 2 (hidden)"]),
     ("5/unlisted main type", &["kind 1 (main) and type "]),
     ("5/unlisted hidden type", &["kind 2 (hidden) and type "]),
@@ -53,7 +62,28 @@ const ROWS: &[Row] = &[
     ("6/head", &[" by its head "]),
     ("6/content", &[" by its head "]),
     ("6/head as last word", &[" by its head "]),
-    ("6/roll, voter missing, misfit", &["but a session has 19"]),
+    ("6/roll, voter missing, misfit", &[", a session has 19", ", a session has 26"]),
+    ("6/width, ", &[" by its head "]),
+    (
+        "6/width, wide board not said to be, a round",
+        &[" would fit sets of eight words. Look at the low 16 bits of the head, and at "],
+    ),
+    (
+        "6/width, narrow board said to be wide",
+        &[" would fit sets of one word. Look at the low 16 bits of the head, and at the traits word, 00000001 at "],
+    ),
+    (
+        "6/width, set of the other width",
+        &[
+            " would fit sets of one word. Look at the low 16 bits of the head, and at the traits word, 00000001 at ",
+            " would fit sets of eight words. Look at the low 16 bits of the head, and at the traits word, 00000000 at ",
+            " would fit sets of eight words. Look at the low 16 bits of the head, and at item 1 (genesis), which has no ",
+        ],
+    ),
+    // There is no genesis to look at.
+    ("6/width, first is type ", &[" would fit sets of eight words. Look at the low 16 bits of the head."]),
+    ("6/width, no cryptogram", CRYPTOGRAM_COUNT),
+    ("6/width, a cryptogram over all", CRYPTOGRAM_COUNT),
     ("7/", &["that is not the SHA-256 of its words "]),
     ("8/one bit", UNKNOWN),
     ("8/zeros", &["has eight zeros in its previous field", HIDDEN[0]]),
@@ -66,6 +96,7 @@ const ROWS: &[Row] = &[
     ("8/hidden first", HIDDEN),
     ("8/random", UNKNOWN),
     ("8/roll, voter missing, broken history", UNKNOWN),
+    ("8/width, ", &["whose previous field must be eight zeros"]),
     ("9/genesis with a parent", &["as its parent, but the parent field of a genesis must be eight zeros"]),
     ("9/hidden before its parent", &["as its parent, but that stands behind it"]),
     (
@@ -82,6 +113,7 @@ const ROWS: &[Row] = &[
     ("9/other type", &["as its parent, but the parent of "]),
     ("9/first", &["is the first item, so that no item before it can be its parent"]),
     ("9/roll, voter missing", &["names a parent that is not found"]),
+    ("9/width, ", &["but the parent field of a genesis must be eight zeros"]),
     ("10/", &[", which is earlier than "]),
     ("11/after intent", &["(extraction intent), after which only "]),
     ("11/late", ROUNDS),
@@ -110,7 +142,8 @@ const ROWS: &[Row] = &[
     ("12/spoil after spoil", &["was already spoiled by item "]),
     ("12/cast after spoil and opening", &["was already spoiled by item "]),
     ("12/under a parent", &[" under the same parent, item "]),
-    ("13/contest number", &["but it must be at most 31"]),
+    ("12/width, ", &["item 1 is the board's genesis already"]),
+    ("13/contest number", NUMBER),
     ("13/threshold, t zero", &["has the threshold 0 at word "]),
     ("13/threshold, t over m", &["trustee only, by the word before it", "trustees only, by the word before it"]),
     ("13/threshold, m 33", &["has the number of trustees 33 at word "]),
@@ -128,11 +161,11 @@ const ROWS: &[Row] = &[
     ("13/session, contest undefined", UNDEFINED),
     ("13/cryptogram bits", &["as the last word of cryptogram "]),
     ("13/ballot, cryptogram too many", &[" cryptograms. "]),
-    ("13/ballot, cryptogram too few", &[" cryptogram. ", " cryptograms. "]),
-    ("13/ballot without contests", &["has 0 contests in its set, 00000000"]),
-    ("13/ballot, contest not in session", &["does not have that contest"]),
+    ("13/ballot, cryptogram too few", CRYPTOGRAMS),
+    ("13/ballot without contests", &["has 0 contests in its set, 00000000", "has 0 contests in its set, 8 words at "]),
+    ("13/ballot, contest not in session", SESSION),
     ("13/ballot, contest not enabled", ENABLED),
-    ("13/ballot, contest undefined", &["does not have that contest"]),
+    ("13/ballot, contest undefined", SESSION),
     ("13/ballot, only a replaced round", ENABLED),
     ("13/fingerprint, one bit", COUNTED),
     ("13/fingerprint of none", COUNTED),
@@ -151,6 +184,23 @@ const ROWS: &[Row] = &[
     ("13/confirmation, number over m", BELOW),
     ("13/confirmation below threshold", &["are needed by the threshold, item "]),
     ("13/low bits", BITS),
+    ("13/trait, bit ", TRAITS),
+    ("13/width, all traits", TRAITS),
+    ("13/width, traits ", TRAITS),
+    ("13/width, unknown traits", TRAITS),
+    ("13/width, first contest number too many", NUMBER),
+    ("13/width, wide board not said to be, a contest", &[" would fit sets of eight words. Look at this word, and at "]),
+    ("13/width, contest undefined", UNDEFINED),
+    ("13/width, contest not in session", SESSION),
+    ("13/width, contest of a later word not in session", SESSION),
+    ("13/width, contest not enabled", ENABLED),
+    ("13/width, contest of a later word not enabled", ENABLED),
+    ("13/width, bits counted across words", &[UNDEFINED[0], SESSION[0]]),
+    ("13/width, as many cryptograms", CRYPTOGRAMS),
+    ("13/width, cryptograms of ", CRYPTOGRAMS),
+    ("13/width, bits of a late cryptogram", &["as the last word of cryptogram "]),
+    ("13/all contests, bits of cryptogram 256", &["as the last word of cryptogram 256, "]),
+    ("13/all contests, bits of one of the cryptograms", &["as the last word of cryptogram "]),
     ("13/roll, voter missing, session without contests", EMPTY),
     ("13/roll, voter missing, contest undefined", UNDEFINED),
     ("13/roll, voter missing, weight 0", &["has the weight 0 at word "]),

@@ -1,6 +1,8 @@
 //! Each place that is named, and each address or key fingerprint: held to the field that the text before it names.
 
 use crate::claims::{so, Claims};
+use crate::content::contest_in_set;
+use crate::widths::{traits, TRAITS_PLACE};
 use crate::words::*;
 use reference::format::*;
 use tirfolma::times::date;
@@ -78,11 +80,16 @@ impl Claims<'_> {
         }
         match self.number {
             4 => all.push(known("board.words ends at ", board.len())),
+            6 => all.extend(self.traits_place()),
             7..=16 | 21 => all.extend(self.items.get(self.at).into_iter().flat_map(|item| self.places_of_item(item))),
             20 => all.extend(self.places_of_roll()),
             _ => {}
         }
         all
+    }
+
+    fn traits_place(&self) -> Option<Known> {
+        traits(&self.files.board.words).map(|word| (format!("at the traits word, {word:08x} at "), TRAITS_PLACE))
     }
 
     fn places_of_item(&self, item: &Item) -> Vec<Known> {
@@ -95,7 +102,7 @@ impl Claims<'_> {
             ],
             9 => vec![known("Look at its parent field, at ", item.behind_content(PARENT))],
             10 => vec![known("Look at its time field, at ", item.behind_content(TIME))],
-            13 => content_places(item),
+            13 => content_places(item).into_iter().chain(self.traits_place()).collect(),
             14 => vec![known("Look at verdicts.words, ", verdict)],
             15 => {
                 let keys = self.keys().into_iter().chain(self.writers_key()).map(|key| (key.phrase(), key.place()));
@@ -185,31 +192,42 @@ fn keys_in(item: &Item) -> Vec<Key<'_>> {
     keys.into_iter().map(|(whose, field)| Key { whose, item, field }).collect()
 }
 
+/// The places of a set of contests: of each of its words, and of all.
+fn set_places(item: &Item) -> impl Iterator<Item = Known> + '_ {
+    let from = item.set_field();
+    let whole = if item.set == 1 { format!("{:08x} ", item.content[from]) } else { "8 words ".to_string() };
+    let empty = if item.set == 1 { "" } else { "8 words " };
+    let all = [format!(" in its set, {whole}at "), format!("has no contests: its set of contests, {empty}at ")];
+    let each = item.contests().into_iter().map(move |j| (contest_in_set(item, j), from + j / 32));
+    each.chain(all.map(|phrase| (phrase, from)))
+}
+
 /// The content words that the rules of a type name, with their values.
 fn content_places(item: &Item) -> Vec<Known> {
     let c = &item.content;
-    let empty = || "has no contests: its set of contests, at ".to_string();
-    let contests = |set: u32| format!(" in its set of contests, {set:08x} at ");
     let fields = match item.code {
+        GENESIS => c.get(17).map(|word| (format!("has the traits {word:08x} at "), 17)).into_iter().collect(),
         CONTEST => vec![(format!("has the contest number {} at ", c[0]), 0)],
         THRESHOLD => vec![
             (format!("has the number of trustees {} at ", c[0]), 0),
             (format!("has the threshold {} at ", c[1]), 1),
         ],
         AUTHORIZER => vec![(format!("has the mode {} at ", c[0]), 0)],
-        ROUND => vec![
-            (format!("has the round number {} at ", c[0]), 0),
-            (empty(), 1),
-            (contests(c[1]), 1),
-            (format!("starts at {} (", date(time(c, 2))), 2),
-            (format!(" and ends at {} (", date(time(c, 4))), 4),
-        ],
-        SESSION => vec![(format!("has the weight {} at ", c[1]), 1), (empty(), 18), (contests(c[18]), 18)],
+        ROUND => {
+            let [(start, starts), (end, ends)] = item.times();
+            let own = [
+                (format!("has the round number {} at ", c[0]), 0),
+                (format!("starts at {} (", date(starts)), start),
+                (format!(" and ends at {} (", date(ends)), end),
+            ];
+            own.into_iter().chain(set_places(item)).collect()
+        }
+        SESSION => set_places(item).chain([(format!("has the weight {} at ", c[1]), 1)]).collect(),
         VOTER_COMMITMENT | SERVER_COMMITMENT => vec![(format!("has {:08x} as its last content word, at ", c[8]), 8)],
         BALLOT => {
-            let last = |k: usize| format!("has {:08x} as the last word of cryptogram {k}, at ", c[CRYPTOGRAM * k]);
-            let all = (1..=c.len() / CRYPTOGRAM).map(|k| (last(k), CRYPTOGRAM * k));
-            all.chain([(contests(c[0]), 0), (format!(" in its set, {:08x} at ", c[0]), 0)]).collect()
+            let last = |k: usize, word: u32| format!("has {word:08x} as the last word of cryptogram {k}, at ");
+            let ends = (1..=item.cryptograms()).map(|k| (k, item.cryptogram_end(k)));
+            ends.map(|(k, end)| (last(k, c[end]), end)).chain(set_places(item)).collect()
         }
         EXTRACTION => vec![(format!("has a fingerprint, {} at ", start(c)), 0)],
         CONFIRMATION => vec![(format!(" in its set, {:08x} at ", c[0]), 0)],
