@@ -40,6 +40,9 @@ static uint32_t *read_words(const char *folder, const char *name, size_t *count)
 
 enum { BALLOT = 19, CAST = 20 };
 
+/* The head of a genesis that has a traits word, where that word stands on the board, and its value for wide sets of contests. */
+enum { TRAITS_HEAD = 0x10010012, TRAITS_PLACE = 18, WIDE_CONTESTS = 1 };
+
 /* The row of item k, and its type, of an accepted board. */
 static const uint32_t *row_of(const uint32_t *index, uint32_t k) { return index + TIRFOLMA_INDEX_ROW_WORDS * (k - 1); }
 
@@ -47,14 +50,31 @@ static uint32_t type_of(const uint32_t *board, const uint32_t *index, uint32_t k
     return board[row_of(index, k)[TIRFOLMA_ROW_PLACE]] >> 16 & 0xfff;
 }
 
-/* Of a ballot: which item cast or spoiled it. */
-static void print_closer(const uint32_t *board, const uint32_t *index, uint32_t k) {
+/* The words of a set of contests, of an accepted board. */
+static uint32_t set_words(const uint32_t *board) {
+    return board[0] == TRAITS_HEAD && board[TRAITS_PLACE] == WIDE_CONTESTS ? 8 : 1;
+}
+
+/* The contests in a set: contest j is bit j mod 32 of word j div 32. */
+static void print_contests(const uint32_t *set, uint32_t words) {
+    for (uint32_t j = 0; j < 32 * words; j++)
+        if (set[j / 32] >> j % 32 & 1) printf(" %" PRIu32, j);
+}
+
+/* Of a ballot: which item cast or spoiled it, and its contests. */
+static void print_ballot(const uint32_t *board, const uint32_t *index, uint32_t k) {
     if (type_of(board, index, k) != BALLOT) return;
-    uint32_t closer = row_of(index, k)[TIRFOLMA_ROW_CLOSER];
+    const uint32_t *row = row_of(index, k);
+    uint32_t closer = row[TIRFOLMA_ROW_CLOSER];
+    printf("ballot %" PRIu32 ": ", k);
     if (closer == TIRFOLMA_NO_ITEM)
-        printf("ballot %" PRIu32 ": open\n", k);
+        printf("open");
     else
-        printf("ballot %" PRIu32 ": %s by item %" PRIu32 "\n", k, type_of(board, index, closer) == CAST ? "cast" : "spoiled", closer);
+        printf("%s by item %" PRIu32, type_of(board, index, closer) == CAST ? "cast" : "spoiled", closer);
+    /* Its content, behind the head, begins with the set. */
+    printf("; contests");
+    print_contests(board + row[TIRFOLMA_ROW_PLACE] + 1, set_words(board));
+    printf("\n");
 }
 
 /* Of a roll that is not bad: how many voters it has, and their weight. The counted ballots weigh no more. */
@@ -99,7 +119,7 @@ int main(int argc, char **argv) {
         printf("main item %" PRIu32 ": voter %" PRIu32 ", weight %" PRIu32 "\n", row[TIRFOLMA_COUNTED_BALLOT],
                row[TIRFOLMA_COUNTED_VOTER], row[TIRFOLMA_COUNTED_WEIGHT]);
     }
-    for (uint32_t k = 1; k <= answer[TIRFOLMA_ITEMS]; k++) print_closer(board, index, k);
+    for (uint32_t k = 1; k <= answer[TIRFOLMA_ITEMS]; k++) print_ballot(board, index, k);
     free(roll);
     free(board);
     return 0;

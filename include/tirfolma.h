@@ -5,7 +5,7 @@
      is 0, the pointer is not followed; it may not be null, so pass the address of any word.
    - A buffer that is lent for writing overlaps no other buffer of the call. Those that are only read may overlap.
    - No other thread writes a buffer, or reads one that is lent for writing, during the call.
-   - The stack has room: an audit takes some 34 KiB of it, and ancestry, which calls itself for each parent, up to 130 KiB more.
+   - The stack has room: an audit takes some 38 KiB of it, and ancestry, which calls itself for each parent, up to 130 KiB more.
    The functions keep nothing, allocate nothing, and may be called from several threads at once. */
 #ifndef TIRFOLMA_H
 #define TIRFOLMA_H
@@ -79,6 +79,10 @@ enum {
 /* Audits a board with its verdict words and the roll of its voters. An odd number of roll words, more than 4096 of them, or voter numbers
    that do not rise strictly are refused by 20; a session whose voter is not on the roll with the session's weight by 21. A roll of no words
    is good, and has no voters.
+
+   How wide the board's sets of contests are, its own first item tells. Where that is a genesis of 18 content words, the last of them, word
+   18 of the board, is its traits word: with 1 each set has eight words, for contests 0 to 255. With 0, and on a board that has no such word,
+   a set has one, for contests 0 to 31. Any other traits word is refused by 13. Limits, tables and answers are the same for both widths.
 
    True: the first 14 words of the answer are as above, of a refusal too (words 2 to 13 are then 0), and the words behind them are as they
    were. The tables:
