@@ -5,7 +5,7 @@ use answers::Size;
 use entries::comparing;
 use entries::listing;
 
-// Audits a board with its verdict words and the roll of its voters, writes the report into the first 14 words of the answer and the rows
+// Audits a board with its verdict words and the roll of its voters, writes the report into the first 22 words of the answer and the rows
 // into the tables, and returns true, of a refusal too. Where the answer is shorter, returns false and writes nothing.
 #[no_mangle]
 pub extern "C" fn tirfolma_audit(

@@ -16,15 +16,10 @@ use Rattle.model.specs.Report.{outside, filled, tableAfter}
 use Rattle.model.specs.Ancestry.{ancestry, listNeed, AncestryAnswer, unlisted, listed, ancestryAnswer, written, listAfter}
 use Rattle.model.proofs.Tests.{tests, neither, or-left, or-right, eq→eqb, if-yes, if-no}
 use Rattle.model.proofs.Ancestry.{ancestry-line, line-length}
-use Rattle.model.proofs.Tables.{filled-append}
 use Rattle.model.proofs.Unchecked.{length-history}
 use Rattle.format.specs.Format.{formatOf}
+use Rattle.words.proofs.Writing.{sets-zeros}
 use Rattle.index.specs.Kept.{before, Kept}
-
--- numbers written into zeros
-sets-zeros : (numbers : List ℕ) (n : ℕ) → length numbers ≤ n → sets (replicate n 0) 0 numbers ≡ filled n numbers
-unfolding filled
-sets-zeros numbers n l = rw sub-zero at (sym (filled-append n [] numbers (omega arith)))
 
 -- an ancestry has no more numbers than the item's own
 pub ancestry-few : {board index : List ℕ} {items number : ℕ} → Kept board index items → 1 ≤ number → number ≤ items
@@ -64,7 +59,7 @@ module _ (board : List ℕ) (items number : ℕ) (list : List ℕ) (zeros : list
         ap listed (e ∙ zero-add _) ∙ sym (if-no (outside number (length h)) _ _ there),
         s
             ∙ ap (λ (words : List ℕ). sets words 0 (ancestry h number)) zeros
-            ∙ sets-zeros (ancestry h number) (length list) (omega arith)
+            ∙ sets-zeros (length list) (ancestry h number) (omega arith)
             ∙ ap (filled (length list)) (sym (if-no (outside number (length h)) _ _ there)),
       )
 

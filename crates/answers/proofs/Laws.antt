@@ -1,11 +1,10 @@
--- Laws of the answers: words written, and the words of a report. Assumes nothing.
+-- Laws of the answers: the words of a report, and words written at once. Assumes nothing.
 use mathlib.Core.Path.{_≡_, refl, ap, _∙_}
-use mathlib.Core.List.{List, [], _∷_, _++_}
-use Prim.Native.Nat.{ℕ, zero, suc, _+_, _≤_, _<_}
-use native.Mathlib.Nat.{suc-add, zero-add}
+use mathlib.Core.List.{List, [], _++_}
+use Prim.Native.Nat.{ℕ, _≤_}
 use native.Mathlib.Omega.{arith}
-use lib.ListN.{length, take, getD, set, length-append}
-use lib.Seq.{sets, sets-eq}
+use lib.ListN.{length, length-append}
+use lib.Seq.{sets}
 use Rattle.report.specs.declared.Answer.{Answer}
 use Rattle.report.specs.declared.Answer.the-variants.{Accepted, Refused}
 use Rattle.report.specs.declared.Report.{Report}
@@ -14,24 +13,8 @@ use Rattle.model.specs.Report as model
 use Rattle.model.specs.Compare.{apart, same, collision}
 use Rattle.model.specs.Comparing.{ComparingAnswer, refusedBoard, compared}
 use Rattle.model.specs.Ancestry.{AncestryAnswer, unlisted, listed}
+use Rattle.words.proofs.Writing.{sets-append, sets-first}
 use Rattle.answers.specs.Words.{headWords, answerWords, headOf, auditSize, overwritten, compareSize, comparisonWords, ancestrySize, listingWords}
-
--- ---- words written one by one
-
--- a word more
-pub sets-more : (l ws : List ℕ) (at i k : ℕ) → k ≡ at + i → i < length ws → set (sets l at (take i ws)) k (getD ws i 0) ≡ sets l at (take (i + 1) ws)
-sets-more l [] at i k e h = absurd (omega arith)
-sets-more l (w ∷ ws) at zero k e h = let same : k ≡ at = omega arith in rw same
-sets-more l (w ∷ ws) at (suc i) k e h = rw (suc-add) (sets-more (set l at w) ws (suc at) i k (omega arith) (omega arith))
-
--- two runs, one behind the other
-sets-append : (l a b : List ℕ) (at k : ℕ) → k ≡ at + length a → sets (sets l at a) k b ≡ sets l at (a ++ b)
-sets-append l [] b at k e = let same : k ≡ at = omega arith in rw same
-sets-append l (x ∷ a) b at k e = sets-append (set l at x) a b (suc at) k (omega arith)
-
--- over the first words
-sets-first : (l ws : List ℕ) → length ws ≤ length l → sets l 0 ws ≡ overwritten ws l
-sets-first l ws h = sets-eq ws l 0 (omega arith) ∙ rw (zero-add)
 
 -- ---- the words of a report
 
@@ -50,7 +33,7 @@ end-answered (Accepted items mains ballots weight) end = refl
 end-answered (Refused refusal items) end = refl
 
 -- both parts, written one behind the other
-pub report-put : (r : Report) (l : List ℕ) (h : List ℕ) → h ≡ headOf (r .answer) → length (r .end) ≡ 8 → auditSize ≤ length l
+pub report-put : (r : Report) (l : List ℕ) (h : List ℕ) → h ≡ headOf (r .answer) → length (r .end) ≡ 16 → auditSize ≤ length l
     → {l′ l″ : List ℕ} → l′ ≡ sets l 0 h → l″ ≡ sets l′ 6 (r .end) → l″ ≡ overwritten (answerWords (reported r)) l
 unfolding answerWords
 report-put r l h e ne room p q =

@@ -17,7 +17,7 @@ overwritten words buffer = words ++ drop (length words) buffer
 
 -- words of the answer
 abbrev pub auditSize : ℕ
-auditSize = 14
+auditSize = 22
 
 -- number, items, main items, ballots, and the weight, high word first
 unfoldable pub headWords : Report → List ℕ

@@ -2,7 +2,6 @@
 ghost use mathlib.Core.Path.{_≡_};
 ghost use Prim.Native.Nat.{_+_, _/_, _%_, _^_, _≤_};
 ghost use lib.ListN.{length};
-ghost use lib.Seq.{sets};
 ghost use Rattle.report.specs.Reported.{reported};
 ghost use Rattle.compare.specs.Answer as comparing;
 ghost use Rattle.ancestry.specs.Answer as listed;
@@ -11,7 +10,6 @@ ghost use Rattle.answers.specs.Words.{compareSize, boardWord, comparison
 use ancestry::Listing;
 use compare::Board;
 use compare::Comparison;
-use format::item::Item;
 use report::Answer;
 use report::Report;
 
@@ -22,7 +20,7 @@ impl Size {
     // Before the end address of a report.
     const HEAD: usize = 6;
 
-    pub const AUDIT: usize = Size::HEAD + Item::ADDRESS;
+    pub const AUDIT: usize = Size::HEAD + Report::END;
 
     pub const COMPARE: usize = 6;
 
@@ -62,18 +60,6 @@ fn head_words(answer: Answer) -> [u32; 6]
     }
 }
 
-// Writes the words into a buffer, from a place on.
-fn put(words: &[u32], buffer: &mut [u32], at: usize)
-    requires { ⌜ at + length (now words) ≤ length (now buffer) ⌝ }
-    ensures { λ _. ⌜ now (buffer .exit) ≡ sets (now (buffer .entry)) at (now (words .entry)) ⌝ }
-{
-    let mut i = 0;
-    while i < words.len() {
-        buffer[at + i] = words[i];
-        i += 1;
-    }
-}
-
 // Writes the words of a report over the first of a buffer: those, and behind them the end address.
 pub fn put_report(report: Report, buffer: &mut [u32])
     requires { ⌜ auditSize ≤ length (now buffer) ⌝ }
@@ -82,8 +68,8 @@ pub fn put_report(report: Report, buffer: &mut [u32])
     let answer = report.answer;
     let head = head_words(answer);
     let end = report.end;
-    put(&head, buffer, 0);
-    put(&end, buffer, Size::HEAD);
+    words::put(&head, buffer, 0);
+    words::put(&end, buffer, Size::HEAD);
 }
 
 // The word of a board: 0 for the kept one, 1 for the later.
@@ -125,7 +111,7 @@ pub fn put_comparison(comparison: Comparison, buffer: &mut [u32])
     ensures { λ _. ⌜ now (buffer .exit) ≡ overwritten (comparisonWords (comparing.answerOf comparison)) (now (buffer .entry)) ⌝ }
 {
     let words = comparison_words(comparison);
-    put(&words, buffer, 0);
+    words::put(&words, buffer, 0);
 }
 
 // Number and items; of acceptance, 0 and how many numbers were written.
@@ -144,5 +130,5 @@ pub fn put_listing(listing: Listing, buffer: &mut [u32])
     ensures { λ _. ⌜ now (buffer .exit) ≡ overwritten (listingWords (listed.answerOf listing)) (now (buffer .entry)) ⌝ }
 {
     let words = listing_words(listing);
-    put(&words, buffer, 0);
+    words::put(&words, buffer, 0);
 }

@@ -12,6 +12,7 @@ use Rattle.model.specs.History.{History, placeOf, endAddress, main}
 use Rattle.model.specs.Counted.{counted, totalWeight}
 use Rattle.model.specs.Audit.{Outcome, unread, refused, accepted, indexNeed, ballotNeed}
 use Rattle.model.specs.Report as model
+use Rattle.model.specs.Format.{longestAddress}
 use Rattle.model.specs.Report.{reportOf, tableAfter, indexRows, ballotRows, filled}
 use Rattle.model.specs.Sound.{Sound}
 use Rattle.model.proofs.Acceptance.{accepted↔sound, unread-some, refused-some}
@@ -116,7 +117,7 @@ module _ (board verdicts roll index ballots : List ℕ) (r : Report) {i b : List
     unfolding reportOf
     accepted-mains = sym (ap (λ (x : Answer). answered x (r .end) .mains) answer) ∙ ap (λ (t : model.Report). t .mains) told
 
-    pub accepted-end : r .end ≡ endAddress (formatOf board) (before board items)
+    pub accepted-end : r .end ≡ filled longestAddress (endAddress (formatOf board) (before board items))
     unfolding reportOf
     accepted-end = sym (ap (λ (x : Answer). answered x (r .end) .end) answer) ∙ ap (λ (t : model.Report). t .end) told
 

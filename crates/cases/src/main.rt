@@ -8,7 +8,7 @@ use libc::STDOUT_FILENO;
 use report::Answer;
 
 // The boards, numbered from 0.
-const BOARDS: usize = 146;
+const BOARDS: usize = 170;
 
 // Words that a board, its verdicts or its roll may have here.
 const ROOM: usize = 16_384;

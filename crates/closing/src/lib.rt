@@ -1,18 +1,17 @@
 // The closing word: 18, and the report of a board that is accepted.
 ghost use mathlib.Core.Path.{_≡_};
-ghost use Prim.Native.Nat.{_+_, _<_, _≤_};
+ghost use Prim.Native.Nat.{_<_};
 ghost use lib.ListN.{length};
-ghost use Rattle.model.specs.Lists.{part};
 ghost use Rattle.model.specs.History.{endAddress};
 ghost use Rattle.model.specs.Audit.{closingOk};
-ghost use Rattle.model.specs.Report.{reportOf};
+ghost use Rattle.model.specs.Format.{longestAddress};
+ghost use Rattle.model.specs.Report.{filled, reportOf};
 ghost use Rattle.format.specs.Format.{formatOf};
 ghost use Rattle.index.specs.Kept.{before, Kept};
 ghost use Rattle.state.specs.Stands.{Stands};
 ghost use Rattle.tally.specs.Tallied.{Tallied};
 ghost use Rattle.report.specs.Reported.{reported};
 ghost use Rattle.closing.specs.Outcome.{closingOutcome};
-use format::item::Item;
 use keys::Verdict;
 use refusal::Refusal;
 use report::Answer;
@@ -37,30 +36,20 @@ fn is_closed(board: &[u32], verdicts: &[u32], index: &[u32], s: State) -> bool
     Verdict::SIZE * s.items == verdicts.len()
 }
 
-// The eight words at a place.
-fn eight_at(board: &[u32], at: usize) -> [u32; 8]
-    requires { ⌜ at + 8 ≤ length (now board) ⌝ }
-    ensures { λ r. ⌜ r ≡ part at 8 (now (board .entry)) ⌝ }
-{
-    let mut eight = [0; Item::ADDRESS];
-    let mut k = 0;
-    while k < Item::ADDRESS {
-        eight[k] = board[at + k];
-        k += 1;
-    }
-    eight
-}
-
-// The address of the last main item; zeros where there is none.
-fn end_address(board: &[u32], index: &[u32], s: State) -> [u32; 8]
+// The address of the last main item, and zeros behind it; zeros where there is none.
+fn end_address(board: &[u32], index: &[u32], s: State) -> [u32; 16]
     requires { ⌜ (Kept (now board) (now index) (s .items)) × (Stands (now board) s) ⌝ }
-    ensures { λ r. ⌜ r ≡ endAddress (formatOf (now (board .entry))) (before (now (board .entry)) (s .items)) ⌝ }
+    ensures { λ r. ⌜ r ≡ filled longestAddress (endAddress (formatOf (now (board .entry))) (before (now (board .entry)) (s .items))) ⌝ }
 {
+    let mut end = [0; Report::END];
     if s.last == 0 {
-        return [0; Item::ADDRESS];
+        return end;
     }
     let e = index::entry(board, index, s.items, s.last);
-    eight_at(board, e.item.address)
+    let from = e.item.address;
+    let to = e.item.end;
+    words::put(&board[from..to], &mut end, 0);
+    end
 }
 
 // The answer at the closing word.

@@ -42,9 +42,6 @@ impl Content {
 
     pub const SESSION_CONTESTS: usize = Size::SESSION;
 
-    // A commitment: its last word.
-    pub const COMMITMENT_END: usize = Size::COMMITMENT - 1;
-
     // A confirmation: its trustees.
     pub const SET: usize = 0;
 }

@@ -13,8 +13,6 @@ impl Range {
     // The last number of a round.
     pub const ROUND: u32 = 15;
 
-    // The low 24 bits of a commitment's ninth word are zero, and the low 16 bits of a cryptogram's 17th: these are the powers of 2.
-    pub const COMMITMENT: u32 = 0x0100_0000;
-
+    // The low 16 bits of a cryptogram's last word are zero: this is the power of 2.
     pub const CRYPTOGRAM: u32 = 0x0001_0000;
 }

@@ -1,5 +1,5 @@
 -- Laws of an item's layout: what stands at the places that `itemOf` gives is what the model reads there. Assumes nothing.
-use Prim.Native.Nat.{ℕ, _+_, _≤_, _<_}
+use Prim.Native.Nat.{ℕ, _+_, _^_, _≤_, _<_}
 use native.Mathlib.Nat.{add-assoc}
 use native.Mathlib.Omega.{arith}
 use mathlib.Core.Path.{_≡_, refl, ap}
@@ -11,31 +11,49 @@ use Rattle.model.specs.Words.{countOf, pair}
 use Rattle.model.specs.Format.{timeSize}
 use Rattle.model.specs.Item.{itemAt, itemLength, hashedLength, hashed, behind, word, time}
 use Rattle.model.proofs.Parts.{part-add, part-one}
-use Rattle.format.specs.Format.{formatOf}
+use Rattle.format.specs.Format.{formatOf, widthsOf}
 use Rattle.format.specs.Layout.{headOf, itemOf}
 use Rattle.format.specs.declared.head.Head.{Head}
 use Rattle.format.specs.declared.item.Item.{Item}
+use Rattle.format.specs.declared.format.Format.{Format}
+use Rattle.format.proofs.Traits.{sizes, knows}
 
--- an item with its head at place p, part by part
-abbrev laid : ℕ → Head → ℕ → Item
-laid p h e = record {
+-- an item with its head at place p, part by part, where addresses and signatures have so many words
+abbrev laid : ℕ → ℕ → ℕ → Head → ℕ → Item
+laid a g p h e = record {
   place = p;
   head = h;
   content = p + 1;
   parent = p + 1 + h .count;
-  previous = p + 1 + h .count + 8;
-  time = p + 1 + h .count + 8 + 8;
-  signature = p + 1 + h .count + 8 + 8 + 2;
-  address = p + 1 + h .count + 8 + 8 + 2 + 16;
+  previous = p + 1 + h .count + a;
+  time = p + 1 + h .count + a + a;
+  signature = p + 1 + h .count + a + a + 2;
+  address = p + 1 + h .count + a + a + 2 + g;
   end = e;
 }
 
-pub laid-out : (ws : List ℕ) (p : ℕ) (h : Head) → h ≡ headOf (getD ws p 0) → laid p h (p + 1 + h .count + 8 + 8 + 2 + 16 + 8) ≡ itemOf ws p
+-- an item's count is below 2 ^ 16, and a format's sizes are small
+pub record Small (h : Head) (f : Format) : Type 0 where
+  pub count : h .count < 2 ^ 16
+  pub address : f .address ≤ 16
+  pub signature : f .signature ≤ 33
+
+pub small : (ws : List ℕ) (p : ℕ) {h : Head} {f : Format} → h ≡ headOf (getD ws p 0) → f ≡ widthsOf ws → Small h f
+unfolding countOf
+small ws p e k =
+    let n : _ ≡ countOf (getD ws p 0) = ap (λ (h : Head). h .count) e in
+    let s = sizes ws in
+    let w = knows k in
+    record { count = omega arith; address = omega arith; signature = omega arith }
+
+pub laid-out : (ws : List ℕ) (p : ℕ) (h : Head) (f : Format) → h ≡ headOf (getD ws p 0) → f ≡ widthsOf ws
+    → let a = f .address in let g = f .signature in laid a g p h (p + 1 + h .count + a + a + 2 + g + a) ≡ itemOf ws p
 unfolding itemOf itemLength
-laid-out ws p h e =
+laid-out ws p h f e k =
+    let w = knows k in
     let n : h .count ≡ countOf (getD ws p 0) = ap (λ (g : Head). g .count) e in
-    let last : p + 1 + h .count + 8 + 8 + 2 + 16 + 8 ≡ behind (formatOf ws) ws p = omega arith in
-    λ i. laid p (e i) (last i)
+    let last : p + 1 + h .count + f .address + f .address + 2 + f .signature + f .address ≡ behind (formatOf ws) ws p = omega arith in
+    λ i. laid (w .address i) (w .signature i) p (e i) (last i)
 
 module _ (ws : List ℕ) (p : ℕ) where
   -- the place behind the item

@@ -4,6 +4,7 @@ ghost use Prim.Native.Nat.{_<_, _≤_};
 ghost use lib.ListN.{length};
 ghost use Rattle.model.specs.Audit.{wordLimit};
 ghost use Rattle.format.specs.Layout.{itemOf};
+use crate::format::Format;
 use crate::head::Head;
 
 pub struct Item {
@@ -19,26 +20,23 @@ pub struct Item {
 }
 
 impl Item {
-    // Words of an address, of a time and of a signature.
-    pub const ADDRESS: usize = 8;
-
+    // Words of a time.
     pub const TIME: usize = 2;
-
-    pub const SIGNATURE: usize = 16;
 
     // The item whose head stands at a place. It may reach past the end of the board.
     pub fn at(board: &[u32], place: usize) -> Self
         requires { ⌜ (place < length (now board)) × (length (now board) ≤ wordLimit) ⌝ }
         ensures { λ r. ⌜ r ≡ itemOf (now (board .entry)) place ⌝ }
     {
+        let format = Format::of(board);
         let head = Head::of(board[place]);
         let content = place + 1;
         let parent = content + head.count;
-        let previous = parent + Item::ADDRESS;
-        let time = previous + Item::ADDRESS;
+        let previous = parent + format.address;
+        let time = previous + format.address;
         let signature = time + Item::TIME;
-        let address = signature + Item::SIGNATURE;
-        let end = address + Item::ADDRESS;
+        let address = signature + format.signature;
+        let end = address + format.address;
         Item {
             place,
             head,

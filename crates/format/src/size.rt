@@ -10,10 +10,6 @@ impl Size {
     // The fingerprint of the counted ballots, and that of a session.
     pub const FINGERPRINT: usize = 8;
 
-    pub const COMMITMENT: usize = 9;
-
-    pub const CRYPTOGRAM: usize = 17;
-
     // What a trustee confirms.
     pub const SHARE: usize = 16;
 

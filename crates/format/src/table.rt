@@ -1,10 +1,9 @@
 // The table of item types.
 ghost use mathlib.Core.Path.{_≡_};
 ghost use Rattle.model.specs.Words.{mainKind, hiddenKind};
-ghost use Prim.Native.Nat.{_≤_};
 ghost use Rattle.model.specs.Format as model;
 ghost use Rattle.model.specs.Types.{setAndEach, rowIn, table, fits};
-ghost use Rattle.format.specs.Format.{formatOf, formatWith};
+ghost use Rattle.format.specs.Format.{formatOf};
 ghost use Rattle.format.specs.Table.{rowOf, countsOf};
 use crate::format::Format;
 use crate::head::Head;
@@ -19,7 +18,7 @@ pub enum Writer {
     Verifier,
 }
 
-// What the parent must be: eight zeros, the latest config item, or an item of a type.
+// What the parent must be: zeros, the latest config item, or an item of a type.
 pub enum ParentRule {
     Zeros,
     LatestConfig,
@@ -79,9 +78,8 @@ fn set_and_each(words: usize, size: usize, n: usize) -> bool
 pub fn row_of(board: &[u32], kind: u32, code: u32) -> Listing
     ensures { λ r. ⌜ rowOf kind code r ≡ rowIn kind code (table (formatOf (now (board .entry)))) ⌝ }
 {
-    let format = Format::of(board);
     if kind == Head::MAIN {
-        return main_row(format.sets, code);
+        return main_row(board, code);
     }
     if kind == Head::HIDDEN {
         return hidden_row(code);
@@ -89,13 +87,13 @@ pub fn row_of(board: &[u32], kind: u32, code: u32) -> Listing
     Listing::Unlisted
 }
 
-// The rows of the main items, where a set of contests has so many words.
-fn main_row(sets: usize, code: u32) -> Listing
-    requires { ⌜ sets ≤ 8 ⌝ }
-    ensures { λ r. ⌜ rowOf mainKind code r ≡ rowIn mainKind code (table (formatWith sets)) ⌝ }
+// The rows of the main items.
+fn main_row(board: &[u32], code: u32) -> Listing
+    ensures { λ r. ⌜ rowOf mainKind code r ≡ rowIn mainKind code (table (formatOf (now (board .entry)))) ⌝ }
 {
-    let round = Size::ROUND + sets;
-    let session = Size::SESSION + sets;
+    let format = Format::of(board);
+    let round = Size::ROUND + format.sets;
+    let session = Size::SESSION + format.sets;
     match code {
         Head::GENESIS => Listing::Listed(Row {
             writer: Writer::Administrator,
@@ -135,17 +133,17 @@ fn main_row(sets: usize, code: u32) -> Listing
         Head::VOTER_COMMITMENT => Listing::Listed(Row {
             writer: Writer::Voter,
             parent: ParentRule::OfType(Head::SESSION),
-            counts: Counts::FromTo(Size::COMMITMENT, Size::COMMITMENT),
+            counts: Counts::FromTo(format.commitment, format.commitment),
         }),
         Head::SERVER_COMMITMENT => Listing::Listed(Row {
             writer: Writer::BallotBox,
             parent: ParentRule::OfType(Head::VOTER_COMMITMENT),
-            counts: Counts::FromTo(Size::COMMITMENT, Size::COMMITMENT),
+            counts: Counts::FromTo(format.commitment, format.commitment),
         }),
         Head::BALLOT => Listing::Listed(Row {
             writer: Writer::Voter,
             parent: ParentRule::OfType(Head::SERVER_COMMITMENT),
-            counts: Counts::SetAndEach(sets, Size::CRYPTOGRAM),
+            counts: Counts::SetAndEach(format.sets, format.cryptogram),
         }),
         Head::CAST => Listing::Listed(Row {
             writer: Writer::Voter,

@@ -6,7 +6,6 @@ use mathlib.Core.Path.{_≡_, sym, ap, _∙_}
 use mathlib.Core.Bool.{Bool, true, false, true≢false}
 use mathlib.Core.List.{List}
 use lib.ListN.{length, getD, take, drop, replicate}
-use lib.Seq.{take-all}
 use lib.Dec.{eqb, leb, lit<}
 use borrow.Author.Tests.{eq-eqb, ne-eqb, eqb-false, le-leb}
 use Rattle.model.specs.Lists.{if_then_else_, part}
@@ -19,13 +18,18 @@ use Rattle.model.specs.History.{Entry, entry, itemNo}
 use Rattle.model.proofs.Tests.{by-test}
 use Rattle.model.proofs.Table.{main-code, genesis-law, asksNone}
 use Rattle.model.proofs.Numbers.{entry-none}
-use Rattle.sha256_block.specs.Fips.{sha256Words}
-use Rattle.format.specs.Format.{formatOf}
+use Rattle.model.specs.Format.{longestAddress}
+use Rattle.model.specs.Report.{filled}
+use Rattle.format.specs.Format.{formatOf, widthsOf}
 use Rattle.format.specs.Layout.{itemOf}
+use Rattle.format.specs.declared.format.Format.{Format}
 use Rattle.format.specs.declared.item.Item.{Item}
 use Rattle.format.specs.declared.table.Row.{Row}
 use Rattle.format.specs.declared.table.ParentRule.the-variants.{OfType}
+use Rattle.format.proofs.Traits.{sizes, knows}
 use Rattle.format.proofs.Places.{count-is, time-is, address-is, hashed-is, signature-behind}
+use Rattle.digests.specs.Digest.{hashBy}
+use Rattle.digests.proofs.Digests.{board-digest-first}
 use Rattle.index.specs.declared.Known.{Known}
 use Rattle.index.specs.Kept.{before, itemAfter}
 use Rattle.index.specs.Known.{IsKnown}
@@ -36,14 +40,15 @@ use Rattle.state.proofs.At.{at-kind, at-code, at-parent, at-parent-words, at-pr
 
 -- ---- 7, the address
 
--- the hashed words are few, "the first n + 19 words", and they and the address lie within the board, which has so many words
-pub record HashedIn (it : Item) (words : ℕ) : Type 0 where
+-- the hashed words are few, "the first n + 19 words", on the longest curve n + 35, and they and the address lie within the board
+pub record HashedIn (board : List ℕ) (it : Item) : Type 0 where
   pub start : it .place ≤ it .signature
-  pub few : it .signature ≤ it .place + 65535 + 19
-  pub end : it .signature ≤ words
-  pub address : it .address + 8 ≤ words
+  pub few : it .signature ≤ it .place + 65535 + 35
+  pub end : it .signature ≤ length board
+  pub address : it .address + formatOf board .address ≤ length board
+  pub width : formatOf board .address ≤ longestAddress
 
-pub hashed-in : (board : List ℕ) {it : Item} → it ≡ itemOf board (it .place) → it .end ≤ length board → HashedIn it (length board)
+pub hashed-in : (board : List ℕ) {it : Item} → it ≡ itemOf board (it .place) → it .end ≤ length board → HashedIn board it
 unfolding hashedLength countOf
 hashed-in board {it} e l =
     let signature : it .signature ≡ itemOf board (it .place) .signature = ap (λ (x : Item). x .signature) e in
@@ -51,20 +56,21 @@ hashed-in board {it} e l =
     let count = count-is board (it .place) in
     let small = mod-lt (getD board (it .place) 0) {m = 65536} (lit< tt) in
     let inside = parts-within (it .place) e l in
-    record { start = omega arith; few = omega arith; end = omega arith; address = inside .address }
+    let sized = sizes board in
+    record { start = omega arith; few = omega arith; end = omega arith; address = inside .address; width = sized .address .1 }
 
-pub address-same : (board : List ℕ) (it : Item) (digest : List ℕ) → it ≡ itemOf board (it .place) → it .end ≤ length board → length digest ≡ 8
-    → digest ≡ sha256Words (take (it .signature - it .place) (drop (it .place) board))
-    → sameWords (part 0 8 digest) (part (it .address) 8 board) ≡ addressOk (formatOf board) (itemAt (formatOf board) board (it .place))
+pub address-same : (board : List ℕ) (it : Item) (f : Format) (digest : List ℕ) → it ≡ itemOf board (it .place) → it .end ≤ length board → f ≡ widthsOf board
+    → digest ≡ filled longestAddress (hashBy (f .curve) (take (it .signature - it .place) (drop (it .place) board)))
+    → sameWords (part 0 (f .address) digest) (part (it .address) (f .address) board) ≡ addressOk (formatOf board) (itemAt (formatOf board) board (it .place))
 unfolding addressOk part
-address-same board it digest s within n e =
+address-same board it f digest s within w e =
     let p = it .place in
-    let whole : take 8 digest ≡ digest = take-all 8 digest (omega arith) in
+    let k = knows w in
     let signature : it .signature ≡ itemOf board p .signature = ap (λ (x : Item). x .signature) s in
     let hashed : it .signature - p ≡ hashedLength (formatOf board) (itemOf board p .head .count) = omega (arith, signature-behind board p) in
     let end : it .end ≡ itemOf board p .end = ap (λ (x : Item). x .end) s in
     let address : it .address ≡ itemOf board p .address = ap (λ (x : Item). x .address) s in
-    rw (whole, e, hashed, hashed-is board p (omega arith), address, address-is board p)
+    rw (e, k .curve, k .address, board-digest-first, hashed, hashed-is board p (omega arith), address, address-is board p)
 
 module _ {board index : List ℕ} {s : State} {c : Known} (a : AtItem board index s c) where
   abbrev i : model.Item
@@ -73,29 +79,31 @@ module _ {board index : List ℕ} {s : State} {c : Known} (a : AtItem board inde
   main-is : (b : Bool) → eqb (c .item .head .kind) 1 ≡ b → isMain i ≡ b
   main-is b q = ap (λ (k : ℕ). eqb k 1) (sym (at-kind a)) ∙ q
 
-  -- ---- 8, the previous item
+  -- ---- 8, the previous item: the code's width w is that of the board's addresses
 
-  abbrev previous : List ℕ
-  previous = part (c .item .previous) 8 board
+  module _ (w : ℕ) (width : w ≡ formatOf board .address) where
+    abbrev previous : List ℕ
+    previous = part (c .item .previous) w board
 
-  pub previous-hidden : (c .item .head .kind ≡ 1 → ⊥) → sameWords previous (part (c .item .parent) 8 board) ≡ previousOk (formatOf board) (before board (s .items)) i
-  unfolding previousOk if_then_else_
-  previous-hidden n = rw (at-previous-words a, at-parent-words a, main-is false (ne-eqb _ _ n))
+    pub previous-hidden : (c .item .head .kind ≡ 1 → ⊥) → sameWords previous (part (c .item .parent) w board) ≡ previousOk (formatOf board) (before board (s .items)) i
+    unfolding previousOk if_then_else_
+    previous-hidden n = rw (width, at-previous-words a, at-parent-words a, main-is false (ne-eqb _ _ n))
 
-  pub previous-first : c .item .head .kind ≡ 1 → s .last ≡ 0 → sameWords previous (replicate 8 0) ≡ previousOk (formatOf board) (before board (s .items)) i
-  unfolding previousOk if_then_else_
-  previous-first m z = rw (at-previous-words a, main-is true (eq-eqb _ _ m), end-none (a .stands) z)
+    pub previous-first : c .item .head .kind ≡ 1 → s .last ≡ 0 → sameWords previous (replicate w 0) ≡ previousOk (formatOf board) (before board (s .items)) i
+    unfolding previousOk if_then_else_
+    previous-first m z = rw (width, at-previous-words a, main-is true (eq-eqb _ _ m), end-none (a .stands) z)
 
-  pub previous-main : c .item .head .kind ≡ 1 → (s .last ≡ 0 → ⊥) → (e : Known) → IsKnown board (entry (before board (s .items)) (s .last)) e
-      → sameWords previous (part (e .item .address) 8 board) ≡ previousOk (formatOf board) (before board (s .items)) i
-  unfolding previousOk if_then_else_
-  previous-main m n e k = rw (at-previous-words a, main-is true (eq-eqb _ _ m), end-last (a .stands) n, known-address k)
+    pub previous-main : c .item .head .kind ≡ 1 → (s .last ≡ 0 → ⊥) → (e : Known) → IsKnown board (entry (before board (s .items)) (s .last)) e
+        → sameWords previous (part (e .item .address) w board) ≡ previousOk (formatOf board) (before board (s .items)) i
+    unfolding previousOk if_then_else_
+    previous-main m n e k = rw (width, at-previous-words a, main-is true (eq-eqb _ _ m), end-last (a .stands) n, known-address k)
 
   -- ---- 9, the parent
 
-  pub parent-zeros : sameWords (part (c .item .parent) 8 board) (replicate 8 0) ≡ parentOk (formatOf board) (before board (s .items)) zeros i
+  pub parent-zeros : (w : ℕ) → w ≡ formatOf board .address
+      → sameWords (part (c .item .parent) w board) (replicate w 0) ≡ parentOk (formatOf board) (before board (s .items)) zeros i
   unfolding parentOk
-  parent-zeros = rw (at-parent-words a)
+  parent-zeros w width = rw (width, at-parent-words a)
 
   pub parent-config : (c .parent ≡ 0 → ⊥) → eqb (c .parent) (s .config) ≡ parentOk (formatOf board) (before board (s .items)) latestConfig i
   unfolding parentOk

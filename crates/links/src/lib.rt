@@ -7,11 +7,11 @@ ghost use Rattle.model.specs.Lists.{if_then_else_};
 ghost use Rattle.model.specs.Words.{mainKind};
 ghost use Rattle.model.specs.Links.{addressOk, previousOk, parentOk, timeOk};
 ghost use Rattle.format.specs.Format.{formatOf};
-ghost use Rattle.format.specs.Layout.{itemOn};
-ghost use Rattle.format.specs.Layout.{itemOf};
+ghost use Rattle.format.specs.Layout.{itemOf, itemOn};
 ghost use Rattle.format.specs.Table.{parentRuleOf};
 ghost use Rattle.index.specs.Kept.{before, itemAfter, ruleAfter};
 ghost use Rattle.state.specs.Stands.{AtItem, IsRow};
+use format::format::Format;
 use format::head::Head;
 use format::item::Item;
 use format::table::ParentRule;
@@ -24,10 +24,11 @@ pub fn address_ok(board: &[u32], item: Item) -> bool
     requires { ⌜ (item ≡ itemOf (now board) (item .place)) × (item .end ≤ length (now board)) ⌝ }
     ensures { λ r. ⌜ r ≡ addressOk (formatOf (now (board .entry))) (itemOn (now (board .entry)) (item .place)) ⌝ }
 {
+    let format = Format::of(board);
     let place = item.place;
     let end = item.signature;
-    let digest = sha256::digest(&board[place..end]);
-    words::same_words(&digest, 0, board, item.address, Item::ADDRESS)
+    let digest = digests::digest(format.curve, &board[place..end]);
+    words::same_words(&digest, 0, board, item.address, format.address)
 }
 
 // 8 broken history: whether a main item names the main item before it, and a hidden item its parent.
@@ -35,15 +36,16 @@ pub fn previous_ok(board: &[u32], index: &[u32], s: State, c: Known) -> bool
     requires { ⌜ AtItem (now board) (now index) s c ⌝ }
     ensures { λ r. ⌜ r ≡ ruleAfter previousOk (now (board .entry)) (s .items) ⌝ }
 {
+    let width = Format::of(board).address;
     let at = c.item.previous;
     if c.item.head.kind != Head::MAIN {
-        return words::same_words(board, at, board, c.item.parent, Item::ADDRESS);
+        return words::same_words(board, at, board, c.item.parent, width);
     }
     if s.last == 0 {
-        return words::is_zero(board, at, Item::ADDRESS);
+        return words::is_zero(board, at, width);
     }
     let e = index::entry(board, index, s.items, s.last);
-    words::same_words(board, at, board, e.item.address, Item::ADDRESS)
+    words::same_words(board, at, board, e.item.address, width)
 }
 
 // 9 orphan: whether the parent is found, and is as listed.
@@ -54,7 +56,7 @@ pub fn parent_ok(board: &[u32], index: &[u32], s: State, c: Known, row: Row) -> 
 {
     let rule = row.parent;
     match rule {
-        ParentRule::Zeros => words::is_zero(board, c.item.parent, Item::ADDRESS),
+        ParentRule::Zeros => words::is_zero(board, c.item.parent, Format::of(board).address),
         ParentRule::LatestConfig => {
             if c.parent == 0 {
                 return false;

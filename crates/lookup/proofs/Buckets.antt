@@ -20,11 +20,13 @@ use Rattle.chains.specs.Chain.{buckets, chainWords, linked, chain}
 use Rattle.chains.proofs.Laws.{chain-length}
 use Rattle.format.specs.Format.{formatOf}
 use Rattle.format.specs.Layout.{itemOf}
+use Rattle.format.proofs.Traits.{sizes}
 use Rattle.index.specs.declared.Known.{Known}
 use Rattle.index.specs.Kept.{before, itemAfter}
 use Rattle.index.specs.Known.{IsKnown, Passing}
 use Rattle.index.proofs.Counts.{hasWords, words-law}
 use Rattle.index.proofs.Reading.{known-code, known-count, known-within, known-address, known-word}
+use Rattle.lookup.specs.Search.{addressOn}
 use Rattle.lookup.specs.Buckets.{ofVoter, ofSession, byAddress, byVoter, parentChain, sessionChain}
 
 -- ---- a bucket is one of the 2,048
@@ -52,9 +54,9 @@ byVoter-small board (suc k) = session-small (itemAfter board k)
 
 -- ---- the first word of an address
 
-pub first-word : (board : List ℕ) (at : ℕ) → getD (part at 8 board) 0 0 ≡ getD board at 0
+pub first-word : (board : List ℕ) (at : ℕ) → getD (addressOn board at) 0 0 ≡ getD board at 0
 unfolding part
-first-word board at = rw (getD-take 8 (drop at board) 0 0 (lit< tt), getD-drop, add-zero)
+first-word board at = let b = sizes board in rw (getD-take (formatOf board .address) (drop at board) 0 0 (omega arith), getD-drop, add-zero)
 
 -- ---- the item that passes
 
@@ -68,7 +70,7 @@ module _ {board index : List ℕ} {n : ℕ} {c : Known} (p : Passing board index
 
   -- by its address
   pub address-inside : c .item .address < length board
-  address-inside = omega (arith, known-within is .address)
+  address-inside = let b = sizes board in omega (arith, known-within is .address)
 
   in-address : {r : ℕ} → r ≡ getD board (c .item .address) 0 % buckets → r ≡ byAddress board (suc n)
   unfolding byAddress entryOf

@@ -7,7 +7,6 @@ use mathlib.Core.Bool.{Bool, false}
 use mathlib.Core.List.{List}
 use lib.Dec.{eqb, leb}
 use borrow.Author.Tests.{eq-eqb, ne-eqb}
-use Rattle.model.specs.Lists.{part}
 use Rattle.model.specs.Codes.{genesisType, sessionType, trackType}
 use Rattle.model.specs.Item as model
 use Rattle.model.specs.Item.{itemAt, code}
@@ -24,7 +23,7 @@ use Rattle.index.specs.declared.Known.{Known}
 use Rattle.index.specs.Kept.{before}
 use Rattle.index.specs.Known.{IsKnown}
 use Rattle.index.proofs.Reading.{known-session}
-use Rattle.lookup.specs.Search.{addressed}
+use Rattle.lookup.specs.Search.{addressOn, addressed}
 
 module _ (board : List ℕ) (n : ℕ) (item : Item) (same : item ≡ itemOf board (item .place)) where
   abbrev h : History
@@ -46,9 +45,9 @@ module _ (board : List ℕ) (n : ℕ) (item : Item) (same : item ≡ itemOf boar
       omega (arith, parent-genesis h i (rw (← code-same) (eq-eqb (item .head .code) genesisType q)), length-history (formatOf board) board n)
 
   pub parent-sought : item .head .code ≢ genesisType → {m : Bool} {r : ℕ} → m ≡ leb (item .head .code) trackType
-      → r ≡ first (addressed m (part (item .parent) 8 board)) h → r ≡ parentNumber h i
+      → r ≡ first (addressed m (addressOn board (item .parent))) h → r ≡ parentNumber h i
   parent-sought q {m} {r} e f =
-      let words : part (item .parent) 8 board ≡ i .parent = ap (λ (x : Item). part (x .parent) 8 board) same ∙ parent-is board (item .place) in
+      let words : addressOn board (item .parent) ≡ i .parent = ap (λ (x : Item). addressOn board (x .parent)) same ∙ parent-is board (item .place) in
       f ∙ rw (e, code-same, words, parent-first h i (later q))
 
   -- ---- the session, from the parent's number

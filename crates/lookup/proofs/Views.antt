@@ -1,6 +1,7 @@
 -- The code's tests of an item, by its view, are the model's tests of the entry that it stands for. Assumes nothing.
-use Prim.Native.Nat.{ℕ, _-_, _≤_}
+use Prim.Native.Nat.{ℕ, _+_, _-_, _≤_}
 use native.Mathlib.Nat.{add-zero}
+use native.Mathlib.Omega.{arith}
 use mathlib.Core.Path.{_≡_, sym, ap, _∙_}
 use mathlib.Core.Logic.{_≢_}
 use mathlib.Core.Bool.{Bool, true, false, not, and-true, and-false, Bool·beq}
@@ -12,17 +13,18 @@ use Rattle.model.specs.Lists.{if_then_else_, part}
 use Rattle.model.specs.Words.{mainKind, sameWords}
 use Rattle.model.specs.Codes.{sessionType}
 use Rattle.model.specs.Item as model
-use Rattle.model.specs.Item.{itemAt, code}
+use Rattle.model.specs.Item.{itemAt, itemLength, code}
 use Rattle.model.specs.History.{Entry, entry, main, childOf}
 use Rattle.model.specs.Phase.{sessionOf}
 use Rattle.format.specs.Format.{formatOf}
 use Rattle.format.specs.Layout.{itemOf}
+use Rattle.format.specs.declared.item.Item.{Item}
 use Rattle.index.specs.declared.Known.{Known}
 use Rattle.index.specs.Kept.{before, Kept}
 use Rattle.index.specs.Known.{IsKnown}
 use Rattle.index.proofs.Counts.{hasWords, entry-words}
 use Rattle.index.proofs.Reading.{known-item, known-code, known-main, known-parent, known-session, known-address, known-word}
-use Rattle.lookup.specs.Search.{entryFrom, addressed}
+use Rattle.lookup.specs.Search.{entryFrom, addressOn, addressed}
 
 -- the view of an entry stands for it
 pub from-known : {board : List ℕ} {e : Entry} {c : Known} → IsKnown board e c → entryFrom board c ≡ e
@@ -33,6 +35,15 @@ from-known {board} {e} {c} is =
 
 pub is-known : {board : List ℕ} {e : Entry} {c : Known} → IsKnown board e c → IsKnown board (entryFrom board c) c
 is-known is = rw (from-known is) is
+
+-- an address ends where its item does, so the code finds its width
+module _ (board : List ℕ) (p : ℕ) {i : Item} (e : i ≡ itemOf board p) where
+  pub address-end : i .end ≡ i .address + formatOf board .address
+  unfolding itemOf itemLength
+  address-end = rw e (omega arith)
+
+  pub address-width : i .end - i .address ≡ formatOf board .address
+  address-width = omega (arith, address-end)
 
 -- a child of another parent
 pub child-other : (e : Entry) (parent : ℕ) (q : ℕ → Bool) → e .parent ≢ parent → false ≡ childOf parent q e
@@ -56,9 +67,16 @@ module _ {board : List ℕ} {e : Entry} {c : Known} (is : IsKnown board e c) whe
   pub addressed-other : (m : Bool) (address : List ℕ) → not (Bool·beq (eqb (c .item .head .kind) mainKind) m) ≡ true → false ≡ addressed m address e
   addressed-other m address q = rw (← known-main is, not-true (Bool·beq (eqb (c .item .head .kind) mainKind) m) q)
 
-  pub addressed-same : (m : Bool) (address : List ℕ) {r : Bool} → not (Bool·beq (eqb (c .item .head .kind) mainKind) m) ≡ false
-      → r ≡ sameWords (part (c .item .address) 8 board) address → r ≡ addressed m address e
-  addressed-same m address q s = s ∙ rw (← known-main is, not-false (Bool·beq (eqb (c .item .head .kind) mainKind) m) q, known-address is)
+  pub known-end : c .item .end ≡ c .item .address + formatOf board .address
+  known-end = address-end board (e .place) (known-item is)
+
+  pub known-width : c .item .end - c .item .address ≡ formatOf board .address
+  known-width = address-width board (e .place) (known-item is)
+
+  pub addressed-same : (m : Bool) (at : ℕ) {r : Bool} → not (Bool·beq (eqb (c .item .head .kind) mainKind) m) ≡ false
+      → let width = c .item .end - c .item .address in
+      r ≡ sameWords (part (c .item .address) width board) (part at width board) → r ≡ addressed m (addressOn board at) e
+  addressed-same m at q s = s ∙ rw (known-width, ← known-main is, not-false (Bool·beq (eqb (c .item .head .kind) mainKind) m) q, known-address is)
 
   pub session-other : (voter : ℕ) → c .item .head .code ≢ sessionType → false ≡ sessionOf voter e
   session-other voter n = rw (← known-code is, ne-eqb (c .item .head .code) sessionType n)

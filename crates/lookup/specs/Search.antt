@@ -2,7 +2,7 @@
 use mathlib.Core.Bool.{Bool, _&&_, Bool·beq}
 use mathlib.Core.List.{List, [], _∷_}
 use Prim.Native.Nat.{ℕ, zero, suc}
-use Rattle.model.specs.Lists.{if_then_else_}
+use Rattle.model.specs.Lists.{if_then_else_, part}
 use Rattle.model.specs.Words.{sameWords}
 use Rattle.model.specs.Item.{itemAt}
 use Rattle.model.specs.History.{History, Entry, main}
@@ -12,6 +12,10 @@ use Rattle.index.specs.declared.Known.{Known}
 -- the entry that the code's view of an item stands for
 abbrev pub entryFrom : List ℕ → Known → Entry
 entryFrom board c = record { place = c .item .place; item = itemAt (formatOf board) board (c .item .place); parent = c .parent; session = c .session }
+
+-- the words of an address that stands at a place of a board
+abbrev pub addressOn : List ℕ → ℕ → List ℕ
+addressOn board at = part at (formatOf board .address) board
 
 -- a main item, or a hidden one, with that address
 abbrev pub addressed : Bool → List ℕ → Entry → Bool

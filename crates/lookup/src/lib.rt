@@ -5,16 +5,16 @@ ghost use mathlib.Core.Path.{_≡_};
 ghost use Prim.Native.Nat.{_+_, _-_, _≤_};
 ghost use lib.ListN.{length};
 ghost use lib.Dec.{eqb};
-ghost use Rattle.model.specs.Lists.{if_then_else_, part, any};
+ghost use Rattle.model.specs.Lists.{if_then_else_, any};
 ghost use Rattle.model.specs.Words.{mainKind};
 ghost use Rattle.model.specs.Codes.{sessionType};
 ghost use Rattle.model.specs.History.{entry, first, last, parentNumber, sessionNumber, childOf};
 ghost use Rattle.model.specs.Phase.{sessionOf};
-ghost use Rattle.format.specs.Layout.{itemOn};
-ghost use Rattle.format.specs.Layout.{itemOf};
+ghost use Rattle.format.specs.Format.{formatOf};
+ghost use Rattle.format.specs.Layout.{itemOf, itemOn};
 ghost use Rattle.index.specs.Kept.{before, Kept};
 ghost use Rattle.index.specs.Known.{IsKnown};
-ghost use Rattle.lookup.specs.Search.{entryFrom, addressed, mainEntry};
+ghost use Rattle.lookup.specs.Search.{entryFrom, addressOn, addressed, mainEntry};
 ghost use Rattle.lookup.specs.Buckets.{parentChain, sessionChain};
 use format::head::Head;
 use format::item::Item;
@@ -24,20 +24,21 @@ pub mod bucket;
 
 // Whether the item is of a kind, main or hidden, and has the address that stands at a place of the board.
 fn is_addressed(board: &[u32], e: Known, main: bool, at: usize) -> bool
-    requires { ⌜ (IsKnown (now board) (entryFrom (now board) e) e) × (at + 8 ≤ length (now board)) ⌝ }
-    ensures { λ r. ⌜ r ≡ addressed main (part at 8 (now (board .entry))) (entryFrom (now (board .entry)) e) ⌝ }
+    requires { ⌜ (IsKnown (now board) (entryFrom (now board) e) e) × (at + formatOf (now board) .address ≤ length (now board)) ⌝ }
+    ensures { λ r. ⌜ r ≡ addressed main (addressOn (now (board .entry)) at) (entryFrom (now (board .entry)) e) ⌝ }
 {
     if (e.item.head.kind == Head::MAIN) != main {
         return false;
     }
-    words::same_words(board, e.item.address, board, at, Item::ADDRESS)
+    let width = e.item.end - e.item.address;
+    words::same_words(board, e.item.address, board, at, width)
 }
 
 // Whether item number k is of a kind, main or hidden, and has the address that stands at a place of the board.
 fn is_at(board: &[u32], index: &[u32], count: usize, k: usize, main: bool, at: usize) -> bool
     requires { ⌜ Kept (now board) (now index) count ⌝ }
-    requires { ⌜ (1 ≤ k) × (k ≤ count) × (at + 8 ≤ length (now board)) ⌝ }
-    ensures { λ r. ⌜ r ≡ addressed main (part at 8 (now (board .entry))) (entry (before (now (board .entry)) count) k) ⌝ }
+    requires { ⌜ (1 ≤ k) × (k ≤ count) × (at + formatOf (now board) .address ≤ length (now board)) ⌝ }
+    ensures { λ r. ⌜ r ≡ addressed main (addressOn (now (board .entry)) at) (entry (before (now (board .entry)) count) k) ⌝ }
 {
     let e = index::entry(board, index, count, k);
     is_addressed(board, e, main, at)
@@ -53,8 +54,9 @@ fn first_addressed(
     main: bool,
     at: usize,
 ) -> usize
-    requires { ⌜ (Kept (now board) (now index) count) × (now parents ≡ parentChain (now board) count) × (at + 8 ≤ length (now board)) ⌝ }
-    ensures { λ r. ⌜ r ≡ first (addressed main (part at 8 (now (board .entry)))) (before (now (board .entry)) count) ⌝ }
+    requires { ⌜ (Kept (now board) (now index) count) × (now parents ≡ parentChain (now board) count) ⌝ }
+    requires { ⌜ at + formatOf (now board) .address ≤ length (now board) ⌝ }
+    ensures { λ r. ⌜ r ≡ first (addressed main (addressOn (now (board .entry)) at)) (before (now (board .entry)) count) ⌝ }
 {
     let mut number = chains::last(parents, bucket::of_address(board[at]));
     let mut found = 0;

@@ -3,7 +3,7 @@
 use Prim.Native.Nat.{ℕ, _≤_}
 use native.Mathlib.Omega.{arith}
 use mathlib.Core.Path.{_≡_, refl, ap, _∙_}
-use mathlib.Core.Logic.{_↔_, Iff·trans, _⊎_, inl, inr, ⊎-elim}
+use mathlib.Core.Logic.{_↔_, _≢_, Iff·trans, _⊎_, inl, inr, ⊎-elim}
 use mathlib.Core.List.{List}
 use lib.ListN.{length, length-map}
 use Rattle.model.specs.Lists.{count}
@@ -13,14 +13,14 @@ use Rattle.model.specs.History.{History, main, mainItems}
 use Rattle.model.specs.Audit.{Outcome, unread, refused, accepted, audit}
 use Rattle.model.specs.Report.{reportOf, outside, Refuses, NoSuch}
 use Rattle.model.specs.Sound.{Sound}
-use Rattle.model.specs.Compare.{Comparison, same, compare}
+use Rattle.model.specs.Compare.{Comparison, apart, same, compare}
 use Rattle.model.specs.Alone.{SameStart}
 use Rattle.model.specs.Comparing.{keptBoard, laterBoard, refusedBoard, compared, answerLater, comparingAnswer, laterAfter, laterIndexAfter, laterBallotsAfter, Answered}
 use Rattle.model.proofs.Tests.{tests, by-if, if-no, if-yes, neither}
 use Rattle.model.proofs.Lists.{count-keep}
 use Rattle.model.proofs.Parts.{map-take}
 use Rattle.model.proofs.Alone.{same-start}
-use Rattle.model.proofs.Comparison.{OneHash, end-is, comparing}
+use Rattle.model.proofs.Comparison.{OneHash, end-is, widths-met, comparing}
 use Rattle.model.proofs.Acceptance.{accepted↔sound}
 use Rattle.model.proofs.Report.{tables-keep, Numbered, audit-numbered}
 
@@ -54,6 +54,10 @@ module _ {f f′ : Format} (one-hash : OneHash f f′) {kb kv kr lb lv lr : List
         collision-is = λ x y. Iff·trans (is _) (c .collision-is x y);
         collides = λ e n. let (x, y, q) = c .collides (end-is kept ∙ e) n in (x, y, is _ .1 q);
       }
+
+  -- addresses of different widths are apart
+  pub apart-widths : f .address ≢ f′ .address → comparingAnswer (accepted g) (accepted h) b ≡ compared apart
+  apart-widths other = answered .apart-is .1 (λ e. other (widths-met kept one-hash later b one inside e))
 
 -- ---- which board a refusal names
 
@@ -173,3 +177,10 @@ module _ (f f′ : Format) (kb kv kr lb lv lr ki kt li lt : List ℕ) (b : ℕ) 
       → Answered f f′ g h b (comparingAnswer kept later b)
   answered-audits {g} {h} one-hash p q one all =
       rw (p, q) (answered one-hash (accepted↔sound f kb kv kr _ _ g .0 p .0) (accepted↔sound f′ lb lv lr _ _ h .0 q .0) b one all)
+
+  pub apart-audits : {g h : History} → f .address ≢ f′ .address → kept ≡ accepted g → later ≡ accepted h → 1 ≤ b → b ≤ count main h
+      → comparingAnswer kept later b ≡ compared apart
+  apart-audits {g} {h} other p q one all =
+      let keptSound = accepted↔sound f kb kv kr _ _ g .0 p .0 in
+      let laterSound = accepted↔sound f′ lb lv lr _ _ h .0 q .0 in
+      rw (p, q) (apart-widths (λ e. absurd (other e)) keptSound laterSound b one all other)

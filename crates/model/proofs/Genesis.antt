@@ -1,4 +1,4 @@
--- The first item of a sound board is a genesis, and the format of the board is the one that its traits say. Paper: request (v).
+-- The first item of a sound board is a genesis, and the format of the board is the one that its traits say. Paper: requests (v), (ix).
 -- Assumes nothing.
 use Prim.Native.Nat.{ℕ, zero, suc, _+_, _-_, _*_, _/_, _%_, _^_, _≤_, _<_}
 use native.Mathlib.Nat.{not-suc-le-zero}
@@ -13,7 +13,7 @@ use lib.Dec.{T, eqb, ltb, eqb→eq}
 use borrow.Author.Tests.{eqb-true, eqb-false, eq-eqb, le-leb}
 use Rattle.model.specs.Lists.{if_then_else_, _⇒_, part, keep}
 use Rattle.model.specs.Words.{kindOf, codeOf, countOf, closingWord, pair, member, size, allIn, lowZero}
-use Rattle.model.specs.Format.{Format}
+use Rattle.model.specs.Format.{Format, Hashes}
 use Rattle.model.specs.Traits.{traitsHead, traitsKnown, traitsOf, formatWith, formatOf}
 use Rattle.model.specs.Item.{Item, itemAt, code, word}
 use Rattle.model.specs.Types.{setAndEach, table, Listed, fits}
@@ -24,6 +24,7 @@ use Rattle.model.specs.Roll.{Eligibility, onRoll}
 use Rattle.model.specs.Sound.{Shaped, Meets, Sound, Beginning}
 use Rattle.model.specs.Alone.{mainList}
 use Rattle.model.proofs.Tests.{by-test, is-true, and-iff, leb-iff, eq→eqb, facts}
+use Rattle.model.proofs.Traits.{known-few}
 use Rattle.model.proofs.Sets.{set-all, set-counts}
 use Rattle.model.proofs.Numbers.{entry-append}
 use Rattle.model.proofs.Rules.{content-rules}
@@ -92,20 +93,20 @@ module _ {f : Format} {ws vs roll : List ℕ} {h : History} (s : Sound f ws vs r
       let made = made-at (s .passed) 0 (s .opened) in
       rw first-item (traits-at ws (rw first-item at (made .meets)))
 
-module _ (sha256 : List ℕ → List ℕ) where
+module _ (s : Hashes) where
   pub format-said : {f : Format} {ws vs roll : List ℕ} {h : History} → Sound f ws vs roll h
-      → formatOf sha256 ws ≡ formatWith sha256 (genesisTraits (itemNo h 1))
-  format-said b = ap (formatWith sha256) (traits-said b)
+      → formatOf s ws ≡ formatWith s (genesisTraits (itemNo h 1))
+  format-said b = ap (formatWith s) (traits-said b)
 
   -- boards whose first items have the same traits have the same format
   module _ {f f′ : Format} {ws vs roll us ts roll′ : List ℕ} where
     same-format : {g h : History} → Sound f ws vs roll g → Sound f′ us ts roll′ h → genesisTraits (itemNo g 1) ≡ genesisTraits (itemNo h 1)
-        → formatOf sha256 ws ≡ formatOf sha256 us
-    same-format a b e = ap (formatWith sha256) (traits-said a ∙ e ∙ sym (traits-said b))
+        → formatOf s ws ≡ formatOf s us
+    same-format a b e = ap (formatWith s) (traits-said a ∙ e ∙ sym (traits-said b))
 
     -- as those with the same main items, signatures left aside
     pub main-format : {g h : History} → Sound f ws vs roll g → Sound f′ us ts roll′ h → mainList g ≡ mainList h
-        → formatOf sha256 ws ≡ formatOf sha256 us
+        → formatOf s ws ≡ formatOf s us
     main-format {g} {h} a b e =
         same-format a b
         (sym (first-main g (orderly (a .passed)) (a .opened))
@@ -113,13 +114,13 @@ module _ (sha256 : List ℕ → List ℕ) where
         ∙ first-main h (orderly (b .passed)) (b .opened))
 
     -- and those of which one begins as the other
-    longer-format : (g t : History) → Sound f ws vs roll (g ++ t) → Sound f′ us ts roll′ g → formatOf sha256 ws ≡ formatOf sha256 us
+    longer-format : (g t : History) → Sound f ws vs roll (g ++ t) → Sound f′ us ts roll′ g → formatOf s ws ≡ formatOf s us
     longer-format g t a b = same-format a b (ap (λ (e : Entry). genesisTraits (e .item)) (entry-append g t 1 (b .opened)))
 
   -- a cut of a sound board is sound in its own format
-  pub cut-format : {ws vs roll : List ℕ} (h t : History) (a : Sound (formatOf sha256 ws) ws vs roll (h ++ t)) → 1 ≤ length h
-      → (b : Beginning (formatOf sha256 ws) (onRoll roll) (a .words) vs h)
-      × let cut = b .words ++ (closingWord (length h) ∷ []) in Sound (formatOf sha256 cut) cut (b .verdicts) roll h
+  pub cut-format : {ws vs roll : List ℕ} (h t : History) (a : Sound (formatOf s ws) ws vs roll (h ++ t)) → 1 ≤ length h
+      → (b : Beginning (formatOf s ws) (onRoll roll) (a .words) vs h)
+      × let cut = b .words ++ (closingWord (length h) ∷ []) in Sound (formatOf s cut) cut (b .verdicts) roll h
   cut-format {roll} h t a one =
       let (b, sound) = sound-beginning h t a one in
       let cut = b .words ++ (closingWord (length h) ∷ []) in
@@ -128,16 +129,16 @@ module _ (sha256 : List ℕ → List ℕ) where
 -- ---- what check 13 says of a genesis and of a contest
 
 module _ (f : Format) (h : History) (i : Item) where
-  genesis-content : code i ≡ 1 → contentOk f h i ≡ ltb (word 17 i) 2
-  unfolding contentOk genesisOk contestOk thresholdOk authorizerOk roundOk sessionOk commitmentOk ballotOk fingerprintOk trusteesOk traitsKnown _⇒_
+  genesis-content : code i ≡ 1 → contentOk f h i ≡ traitsKnown (word 17 i)
+  unfolding contentOk genesisOk contestOk thresholdOk authorizerOk roundOk sessionOk commitmentOk ballotOk fingerprintOk trusteesOk _⇒_
   genesis-content c = rw c (simp and-true)
 
   contest-content : code i ≡ 3 → contentOk f h i ≡ ltb (word 0 i) (32 * f .sets)
   unfolding contentOk genesisOk contestOk thresholdOk authorizerOk roundOk sessionOk commitmentOk ballotOk fingerprintOk trusteesOk _⇒_
   contest-content c = rw c (simp and-true)
 
-  pub genesis-traits : code i ≡ 1 → T (contentOk f h i) ↔ (word 17 i < 2)
-  genesis-traits c = rw (genesis-content c) (leb-iff _ _)
+  pub genesis-traits : code i ≡ 1 → T (contentOk f h i) ↔ (word 17 i < 6)
+  genesis-traits c = rw (genesis-content c) (known-few (word 17 i))
 
   pub contest-numbers : code i ≡ 3 → T (contentOk f h i) ↔ (word 0 i < 32 * f .sets)
   contest-numbers c = rw (contest-content c) (leb-iff _ _)

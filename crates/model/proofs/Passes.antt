@@ -1,36 +1,50 @@
--- What check 6 says of each type, and check 13 of thresholds, rounds, sessions, confirmations and the contests of a ballot, for sets of any number
--- of words. Paper: "Item types", "Content", request (v). Assumes nothing.
-use Prim.Native.Nat.{ℕ, zero, suc, _+_, _*_, _≤_, _<_}
+-- What check 6 says of each type, and check 13 of thresholds, rounds, sessions, commitments, confirmations and the contests of a ballot, for sets of any
+-- number of words. Paper: "Item types", "Content", requests (v), (ix). Assumes nothing.
+use Prim.Native.Nat.{ℕ, zero, suc, _+_, _-_, _*_, _%_, _^_, _≤_, _<_}
 use native.Mathlib.Nat.{le-refl, not-suc-le-zero}
 use native.Mathlib.Omega.{arith}
 use mathlib.Core.Path.{_≡_, refl, sym}
-use mathlib.Core.Logic.{_≢_, _↔_}
+use mathlib.Core.Logic.{_≢_, _↔_, _⊎_, ⊎-elim}
 use mathlib.Core.Bool.{Bool, true, false, and-true, not, _&&_}
 use mathlib.Core.List.{List, [], _∷_, map}
 use lib.ListN.{length, getD, take}
 use lib.Seq.{take-all}
 use lib.Dec.{T, eqb, leb, ltb, eqb→eq}
-use Rattle.model.specs.Lists.{if_then_else_, _⇒_, any, keep, latest}
-use Rattle.model.specs.Words.{codeOf, member, size, allIn}
-use Rattle.model.specs.Format.{Format, secp256r1}
+use borrow.Author.Tests.{eqb-true}
+use Rattle.model.specs.Lists.{if_then_else_, _⇒_, any, has, keep, latest}
+use Rattle.model.specs.Words.{codeOf, member, size, allIn, lowZero, sameWords}
+use Rattle.model.specs.Format.{Format, Hashes, secp256r1, secp384r1, secp521r1, formatOn}
+use Rattle.model.specs.Traits.{formatOf}
 use Rattle.model.specs.Item.{Item, code, time, word}
 use Rattle.model.specs.Types.{Counts, from_to_, setAndEach, Row, table}
 use Rattle.model.specs.History.{History, Entry, absent, entry, itemNo, first, typed, sessionNumber, sessionContests}
+use Rattle.model.specs.Counted.{contents, counted}
 use Rattle.model.specs.Phase.{sameRound, rounds, isOpen, roundContests, roundStart, roundEnd}
 use Rattle.model.specs.Content.{defines, contestsOk, enables, mayVote, genesisOk, contestOk, thresholdOk, authorizerOk, roundOk, sessionOk, commitmentOk, ballotOk, fingerprintOk, trusteesOk, contentOk, Defined, Enables}
-use Rattle.model.proofs.Tests.{by-test, passes, is-true, is-false, or-right, eq→eqb, and-iff, leb-iff, facts, tests}
+use Rattle.model.proofs.Tests.{by-test, passes, is-true, is-false, or-right, eq→eqb, and-iff, eqb-iff, leb-iff, same-iff, facts, tests}
+use Rattle.model.proofs.Lists.{Every}
 use Rattle.model.proofs.Numbers.{entry-inside, first-found}
 use Rattle.model.proofs.State.{any-first}
 use Rattle.model.proofs.Once.{any-before}
 use Rattle.model.proofs.Sets.{set-all}
 
--- the counts, row by row: sets of contests grow, in types 6, 16 and 19, and nothing else does
-pub table-counts : (sha256 : List ℕ → List ℕ) (w : ℕ) → map (λ (r : Row). r .counts) (table (secp256r1 sha256 w))
-    ≡ from_to_ 17 18 ∷ from_to_ 0 64 ∷ from_to_ 1 65 ∷ from_to_ 10 10 ∷ from_to_ 9 9 ∷ from_to_ (5 + w) (5 + w) ∷ from_to_ (18 + w) (18 + w)
-    ∷ from_to_ 9 9 ∷ from_to_ 9 9 ∷ setAndEach w 17 ∷ from_to_ 0 0 ∷ from_to_ 0 0 ∷ from_to_ 0 0 ∷ from_to_ 8 8 ∷ setAndEach 1 16
-    ∷ from_to_ 0 0 ∷ from_to_ 8 8 ∷ from_to_ 1 256 ∷ from_to_ 1 256 ∷ []
-unfolding table
-table-counts sha256 w = refl
+-- the counts of the types in the order of their codes, where a commitment, a cryptogram and a set have so many words: sets grow in types 6, 16
+-- and 19, commitments are types 17 and 18, cryptograms stand in 19, and nothing else depends on a curve or on a width
+abbrev countsWith : (commitment cryptogram sets : ℕ) → List Counts
+countsWith commitment cryptogram w =
+    from_to_ 17 18 ∷ from_to_ 0 64 ∷ from_to_ 1 65 ∷ from_to_ 10 10 ∷ from_to_ 9 9 ∷ from_to_ (5 + w) (5 + w) ∷ from_to_ (18 + w) (18 + w)
+    ∷ from_to_ commitment commitment ∷ from_to_ commitment commitment ∷ setAndEach w cryptogram
+    ∷ from_to_ 0 0 ∷ from_to_ 0 0 ∷ from_to_ 0 0 ∷ from_to_ 8 8 ∷ setAndEach 1 16 ∷ from_to_ 0 0 ∷ from_to_ 8 8 ∷ from_to_ 1 256 ∷ from_to_ 1 256 ∷ []
+
+abbrev countsOf : Format → List Counts
+countsOf f = map (λ (r : Row). r .counts) (table f)
+
+module _ (s : Hashes) (w : ℕ) where
+  pub table-counts : (countsOf (formatOn s secp256r1 w) ≡ countsWith 9 17 w)
+      × (countsOf (formatOn s secp384r1 w) ≡ countsWith 13 25 w)
+      × (countsOf (formatOn s secp521r1 w) ≡ countsWith 17 34 w)
+  unfolding table
+  table-counts = (refl, refl, refl)
 
 is-defined : (h : History) (j : ℕ) → T (any (defines j) h) → Defined h j
 is-defined h j t =
@@ -82,7 +96,33 @@ module _ (f : Format) (h : History) (i : Item) where
         λ (n, some, each). simp facts (n, contests .1 (some, each)),
       )
 
--- ---- what does not grow: thresholds and trustees
+-- ---- commitments
+
+module _ (f : Format) (h : History) (i : Item) where
+  commitment-content : (code i ≡ 17) ⊎ (code i ≡ 18) → contentOk f h i ≡ lowZero (f .spare) (word (f .commitment - 1) i)
+  unfolding contentOk genesisOk contestOk thresholdOk authorizerOk roundOk sessionOk commitmentOk ballotOk fingerprintOk trusteesOk _⇒_
+  commitment-content = ⊎-elim (λ c. rw c (simp and-true)) (λ c. rw c (simp and-true))
+
+  low-bits : (code i ≡ 17) ⊎ (code i ≡ 18) → T (contentOk f h i) ↔ (word (f .commitment - 1) i % 2 ^ f .spare ≡ 0)
+  unfolding lowZero
+  low-bits c = rw (commitment-content c) (eqb-iff _ _)
+
+module _ (s : Hashes) (w : ℕ) (h : History) (i : Item) (c : (code i ≡ 17) ⊎ (code i ≡ 18)) where
+  -- 17 and 18: "a commitment's last word having its low 24, 24 or 8 bits zero"
+  pub commitment-passes : (T (contentOk (formatOn s secp256r1 w) h i) ↔ (word 8 i % 2 ^ 24 ≡ 0))
+      × (T (contentOk (formatOn s secp384r1 w) h i) ↔ (word 12 i % 2 ^ 24 ≡ 0))
+      × (T (contentOk (formatOn s secp521r1 w) h i) ↔ (word 16 i % 2 ^ 8 ≡ 0))
+  commitment-passes = (low-bits _ h i c, low-bits _ h i c, low-bits _ h i c)
+
+-- ---- what does not grow: fingerprints, thresholds and trustees
+
+module _ (s : Hashes) (ws : List ℕ) (h : History) (i : Item) where
+  extraction-content : code i ≡ 33 → contentOk (formatOf s ws) h i ≡ sameWords (i .content) (s .sha256 (contents (counted h)))
+  unfolding contentOk genesisOk contestOk thresholdOk authorizerOk roundOk sessionOk commitmentOk ballotOk fingerprintOk trusteesOk _⇒_
+  extraction-content c = rw c (simp and-true)
+
+  pub fingerprint-passes : code i ≡ 33 → T (contentOk (formatOf s ws) h i) ↔ (i .content ≡ s .sha256 (contents (counted h)))
+  fingerprint-passes c = rw (extraction-content c) (same-iff _ _)
 
 module _ (f : Format) (h : History) (i : Item) where
   threshold-content : code i ≡ 4 → contentOk f h i ≡ (leb 1 (word 1 i) && leb (word 1 i) (word 0 i) && leb (word 0 i) 32)
@@ -96,6 +136,25 @@ module _ (f : Format) (h : History) (i : Item) where
         λ t. let ((a, b), c) = simp facts at t in (a, b, c),
         λ (a, b, c). simp facts ((a, b), c),
       )
+
+  authorizer-content : code i ≡ 5 → contentOk f h i ≡ (leb 1 (word 0 i) && leb (word 0 i) 2)
+  unfolding contentOk genesisOk contestOk thresholdOk authorizerOk roundOk sessionOk commitmentOk ballotOk fingerprintOk trusteesOk _⇒_
+  authorizer-content c = rw c (simp and-true)
+
+  -- 5: mode 1 or 2
+  pub authorizer-passes : code i ≡ 5 → T (contentOk f h i) ↔ ((1 ≤ word 0 i) × (word 0 i ≤ 2))
+  authorizer-passes c = rw (authorizer-content c) (simp facts (λ t. t, λ t. t))
+
+  any-code : (cs : List ℕ) → Every (λ c. code i ≡ c → T (contentOk f h i)) cs → T (has (code i) cs) → T (contentOk f h i)
+  unfolding any
+  any-code [] all t = absurd t
+  any-code (c ∷ cs) (now, all) t = by-test (eqb (code i) c) (λ q. now (eqb-true (code i) c q)) (λ q. any-code cs all (rw q at t))
+
+  -- of the other types nothing is asked
+  pub others-pass : T (has (code i) (2 ∷ 20 ∷ 21 ∷ 32 ∷ 48 ∷ 49 ∷ 50 ∷ 51 ∷ [])) → T (contentOk f h i)
+  unfolding contentOk genesisOk contestOk thresholdOk authorizerOk roundOk sessionOk commitmentOk ballotOk fingerprintOk trusteesOk _⇒_
+  others-pass = any-code (2 ∷ 20 ∷ 21 ∷ 32 ∷ 48 ∷ 49 ∷ 50 ∷ 51 ∷ [])
+      (λ e. rw e tt, (λ e. rw e tt, (λ e. rw e tt, (λ e. rw e tt, (λ e. rw e tt, (λ e. rw e tt, (λ e. rw e tt, (λ e. rw e tt, tt))))))))
 
   abbrev trusteeSet : List ℕ
   trusteeSet = word 0 i ∷ []

@@ -6,37 +6,36 @@ use mathlib.Core.Path.{_≡_, refl, sym, ap, _∙_}
 use mathlib.Core.Logic.{_≢_, _↔_, _⊎_, inl, inr, ⊎-elim}
 use mathlib.Core.Bool.{Bool, true, false, not, _&&_}
 use mathlib.Core.Option.{Option, none, some}
-use mathlib.Core.List.{List, [], _∷_, _++_, map}
-use lib.ListN.{length, getD, length-append}
+use mathlib.Core.List.{List, [], _∷_, map}
+use lib.ListN.{length, getD}
 use lib.Dec.{T, eqb, leb, ltb}
-use borrow.Author.Tests.{eqb-true, eqb-false, eq-eqb, ltb-false}
+use borrow.Author.Tests.{eqb-true, eqb-false, ltb-false}
 use Rattle.model.specs.Lists.{if_then_else_, any, has}
 use Rattle.model.specs.Words.{kindOf, codeOf, countOf, isClosing}
 use Rattle.model.specs.Refusal.{noFault, tooLarge, wrongCount}
-use Rattle.model.specs.Format.{Format, secp256r1}
+use Rattle.model.specs.Format.{Format, Hashes, secp256r1, formatOn}
 use Rattle.model.specs.Traits.{traitsHead, formatOf}
-use Rattle.model.specs.Item.{Item, itemAt, behind, code, wordsOf}
+use Rattle.model.specs.Item.{Item, itemAt, behind, code}
 use Rattle.model.specs.Types.{Counts, from_to_, Row, rowIn, rowOf, Listed, fits}
-use Rattle.model.specs.History.{History, typed, grown, placeOf, history}
+use Rattle.model.specs.History.{History, placeOf, history}
 use Rattle.model.specs.Links.{addressOk, previousOk, parentOk, timeOk}
 use Rattle.model.specs.Phase.{phaseOk}
-use Rattle.model.specs.Only.{onBoardOk, onlyOk}
+use Rattle.model.specs.Only.{onlyOk}
 use Rattle.model.specs.Content.{genesisOk, contentOk}
 use Rattle.model.specs.Roll.{Eligibility, isBadRoll, onRoll}
-use Rattle.model.specs.Audit.{Outcome, refused, accepted, firstUnmet, checks, verdictOf, faultIn, fault, judged, wordAt, items, audit}
+use Rattle.model.specs.Audit.{Outcome, refused, accepted, firstUnmet, checks, faultIn, fault, judged, wordAt, items, audit}
 use Rattle.model.specs.Audit.{itemLimit, isTooLarge, isShort, isEmpty}
-use Rattle.model.specs.Sound.{Shaped, Meets, Passed, next}
-use Rattle.model.proofs.Tests.{facts, tests, by-test, passes, is-true, not-not, by-if}
-use Rattle.model.proofs.Rules.{only-rules}
-use Rattle.model.proofs.Checks.{by-checks, meets}
-use Rattle.model.proofs.Parsing.{length-words, shaped-at}
+use Rattle.model.specs.Sound.{Shaped, Passed}
+use Rattle.model.proofs.Tests.{facts, by-test, passes, by-if}
+use Rattle.model.proofs.Parsing.{shaped-at}
 use Rattle.model.proofs.Table.{main-code}
-use Rattle.model.proofs.Entries.{Opens, orderly}
+use Rattle.model.proofs.Entries.{orderly}
 use Rattle.model.proofs.Unchecked.{length-history}
 use Rattle.model.proofs.Steps.{judged-refused}
-use Rattle.model.proofs.Traits.{narrow-board}
+use Rattle.model.proofs.Traits.{other-board}
 use Rattle.narrow.specs.Before as Before
 use Rattle.narrow.specs.Before.{upToSecond, LaterGenesis}
+use Rattle.narrow.proofs.Walk.{head-is, second, At, faultless}
 use Rattle.narrow.proofs.Before.{counts-now, row-now, row-before, first-before, genesis-before, others-before}
 use Rattle.narrow.proofs.Before.{table-before, phase-before, content-before}
 
@@ -64,18 +63,6 @@ firstNow = with-counts Before.firstRow (from_to_ 17 18)
 
 -- ---- a later genesis
 
-head-is : (w : ℕ) → kindOf w ≡ 1 → codeOf w ≡ 1 → countOf w ≡ 18 → w ≡ traitsHead
-unfolding kindOf codeOf countOf
-head-is w k c n = omega arith
-
--- behind another item a genesis is a second one
-second : (h : History) (i : Item) → Opens h → 1 ≤ length h → code i ≡ 1 → T (onlyOk h i) → ⊥
-unfolding onBoardOk any
-second [] i o l c t = absurd (omega arith)
-second (e ∷ es) i o l c t =
-    let one = simp facts at (only-rules t .onBoard) in
-    one (rw (eq-eqb (code i) 1 c) tt) (rw (c, is-true (typed 1 e) o) tt)
-
 abbrev UpToSecond : ℕ → Type 0
 UpToSecond k = T (has k upToSecond)
 
@@ -83,14 +70,14 @@ some-number : (k : ℕ) → UpToSecond k → k ≢ noFault
 unfolding any
 some-number k t q = rw q at t
 
-module _ (sha256 : List ℕ → List ℕ) where
+module _ (s : Hashes) where
   abbrev f : Format
-  f = secp256r1 sha256 1
+  f = formatOn s secp256r1 1
 
   module _ (w : ℕ) where
     first-row : isGenesis w ≡ true → rowOf f w ≡ some firstNow
     unfolding rowOf rowIn if_then_else_
-    first-row q = ap (rowIn (kindOf w) (codeOf w)) (table-before sha256) ∙ rw q
+    first-row q = ap (rowIn (kindOf w) (codeOf w)) (table-before s) ∙ rw q
 
     was-first : isGenesis w ≡ true → Before.rowOf f w ≡ some Before.firstRow
     unfolding Before.rowOf Before.rowIn if_then_else_
@@ -98,55 +85,16 @@ module _ (sha256 : List ℕ → List ℕ) where
 
     other-row : isGenesis w ≡ false → rowOf f w ≡ option-now (Before.rowOf f w)
     unfolding rowOf rowIn Before.rowOf Before.rowIn if_then_else_
-    other-row q = ap (rowIn (kindOf w) (codeOf w)) (table-before sha256) ∙ rw q (row-in-now (kindOf w) (codeOf w) (Before.otherRows f))
+    other-row q = ap (rowIn (kindOf w) (codeOf w)) (table-before s) ∙ rw q (row-in-now (kindOf w) (codeOf w) (Before.otherRows f))
 
     -- type 1 is listed under kind 1 only
     listed-genesis : Listed f w → codeOf w ≡ 1 → isGenesis w ≡ true
     listed-genesis l c = rw (main-code l, c)
 
   module _ (on : Eligibility) (ws vs : List ℕ) where
-    -- the items of h passed, and end at place p
-    record At (h : History) (p : ℕ) : Type 0 where
-      words : List ℕ
-      verdicts : List ℕ
-      passed : Passed f on words verdicts h
-      place : length words ≡ p
-
-    -- an item that meets the rules leads to the place behind it
-    onward : (h : History) (p : ℕ) → At h p → behind f ws p ≤ length ws → Meets f on h (verdictOf f ws vs h) (itemAt f ws p)
-        → At (grown f ws h p) (behind f ws p)
-    unfolding itemAt
-    onward h p a fit m =
-        let i = itemAt f ws p in
-        record {
-          words = a .words ++ wordsOf i;
-          verdicts = a .verdicts ++ verdictOf f ws vs h;
-          passed = rw (a .place) at (next (a .words) (a .verdicts) h _ i (a .passed) m);
-          place = length-append (a .words) (wordsOf i) ∙ rw (a .place, length-words f i (shaped-at f ws p fit));
-        }
-
-    -- as does one without a fault
-    faultless : (r : Option Row) (h : History) (p : ℕ) → At h p → rowOf f (getD ws p 0) ≡ r → faultIn f on ws vs r h p ≡ noFault
-        → At (grown f ws h p) (behind f ws p)
-    unfolding faultIn itemAt checks
-    faultless none h p a listed = λ e. absurd (omega arith)
-    faultless (some r) h p a listed =
-        let Goal : ℕ → Type 0 = λ n. n ≡ noFault → At (grown f ws h p) (behind f ws p) in
-        let no : (n : ℕ) → Goal (suc n) = λ n e. absurd (omega arith) in
-        let fitting = fits (r .counts) (countOf (getD ws p 0)) in
-        let i = itemAt f ws p in
-        let v = verdictOf f ws vs h in
-        by-if Goal (not fitting) _ _ (λ t. no 5)
-        λ t. by-if Goal (ltb (length ws) (behind f ws p)) _ _ (λ u. no 3)
-        λ u.
-        let fit : behind f ws p ≤ length ws = omega (arith, tests) in
-        by-checks Goal (checks f on h v r i)
-        (λ met e. onward h p a fit (meets f on h v i (record { row = r; found = listed }) (not-not fitting .0 t) (shaped-at f ws p fit) met))
-        (no 6, (no 7, (no 8, (no 9, (no 10, (no 11, (no 12, (no 20, (no 13, (no 14, (no 15, tt)))))))))))
-
     -- ---- one item
 
-    module _ (h : History) (p : ℕ) (a : At h p) where
+    module _ (h : History) (p : ℕ) (a : At f on h p) where
       abbrev w : ℕ
       w = getD ws p 0
 
@@ -165,9 +113,9 @@ module _ (sha256 : List ℕ → List ℕ) where
           (λ u. rw u)
           (λ u. let shaped = shaped-at f ws p (ltb-false (length ws) (behind f ws p) u) in
           let content : contentOk f h i ≡ Before.contentOk f h i =
-          content-before sha256 (a .passed) i shaped (record { row = with-counts r c; found = listed }) (passes q)
+          content-before s (a .passed) i shaped (record { row = with-counts r c; found = listed }) (passes q)
           ∙ rw (old shaped (passes q)) in
-          rw (u, phase-before sha256 (a .passed) i, content))))
+          rw (u, phase-before s (a .passed) i, content))))
           (λ q. rw (← same, q))
 
       -- another item than a genesis
@@ -178,7 +126,7 @@ module _ (sha256 : List ℕ → List ℕ) where
       other-fault (some r) e q =
           let l : Listed f w = record { row = row-now r; found = e } in
           let other : code i ≢ 1 = λ c. absurd (passes (sym q ∙ listed-genesis w l c)) in
-          same-fault r (counts-now (r .counts)) e (row-before (r .counts) (countOf w)) (λ s t. others-before i other)
+          same-fault r (counts-now (r .counts)) e (row-before (r .counts) (countOf w)) (λ shaped t. others-before i other)
 
       -- a genesis, but of 18 words
       first-fault : isGenesis w ≡ true → countOf w ≢ 18
@@ -186,9 +134,9 @@ module _ (sha256 : List ℕ → List ℕ) where
       unfolding fits itemAt
       first-fault q other =
           same-fault Before.firstRow (from_to_ 17 18) (first-row w q) (first-before (countOf w) other)
-          (λ s t. let (least, most) = simp facts at t in
+          (λ shaped t. let (least, most) = simp facts at t in
           let count : countOf w ≡ 17 = omega arith in
-          genesis-before i (s .content ∙ count))
+          genesis-before i (shaped .content ∙ count))
 
       -- a genesis of 18 words: its count was not in the table,
       was-fault : countOf w ≡ 18 → Before.faultIn f on ws vs (some Before.firstRow) h p ≡ wrongCount
@@ -211,7 +159,7 @@ module _ (sha256 : List ℕ → List ℕ) where
 
     -- the same answer, or another for a later genesis
     abbrev Same : Outcome → Outcome → Type 0
-    Same is was = (is ≡ was) ⊎ LaterGenesis sha256 ws was is
+    Same is was = (is ≡ was) ⊎ LaterGenesis s ws was is
 
     -- the same fault is the same answer, or leads on
     judged-same : (k : ℕ) (h : History) (is was : Outcome) → (k ≡ noFault → Same is was) → Same (judged f ws vs k h is) (judged f ws vs k h was)
@@ -223,7 +171,7 @@ module _ (sha256 : List ℕ → List ℕ) where
     unfolding wordAt if_then_else_
     word-same h p is was same =
         by-test (leb (length ws) p) (λ q. rw q (inl refl))
-        (λ q. rw q (by-test (isClosing (getD ws p 0)) (λ s. rw s (inl refl)) (λ s. rw s same)))
+        (λ q. rw q (by-test (isClosing (getD ws p 0)) (λ t. rw t (inl refl)) (λ t. rw t same)))
 
     module _ (other : getD ws 0 0 ≢ traitsHead) where
       not-first : (n : ℕ) → getD ws (placeOf f ws n) 0 ≡ traitsHead → 1 ≤ n
@@ -232,8 +180,8 @@ module _ (sha256 : List ℕ → List ℕ) where
       not-first (suc n) e = omega arith
 
       -- the item behind the first n
-      item-same : (n : ℕ) (is was : Outcome) → At (history f ws n) (placeOf f ws n)
-          → (At (history f ws (suc n)) (placeOf f ws (suc n)) → Same is was)
+      item-same : (n : ℕ) (is was : Outcome) → At f on (history f ws n) (placeOf f ws n)
+          → (At f on (history f ws (suc n)) (placeOf f ws (suc n)) → Same is was)
           → let h = history f ws n in let p = placeOf f ws n in
           Same (judged f ws vs (fault f on ws vs h p) h is) (judged f ws vs (Before.fault f on ws vs h p) h was)
       unfolding history placeOf
@@ -260,11 +208,11 @@ module _ (sha256 : List ℕ → List ℕ) where
             number-is = number;
           }))
           (λ t. rw (← first-fault h p a q (eqb-false (countOf w) 18 t))
-          (judged-same _ h is was (λ e. rest (faultless _ h p a (first-row w q) e))))))
+          (judged-same _ h is was (λ e. rest (faultless f on ws vs _ h p a (first-row w q) e))))))
           (λ q. rw (other-row w q, ← other-fault h p a (Before.rowOf f w) (other-row w q) q)
-          (judged-same _ h is was (λ e. rest (faultless _ h p a (other-row w q) e))))
+          (judged-same _ h is was (λ e. rest (faultless f on ws vs _ h p a (other-row w q) e))))
 
-      items-same : (k n : ℕ) → At (history f ws n) (placeOf f ws n)
+      items-same : (k n : ℕ) → At f on (history f ws n) (placeOf f ws n)
           → let h = history f ws n in let p = placeOf f ws n in
           Same (items f on ws vs k h p) (Before.items f on ws vs k h p)
       unfolding items Before.items history placeOf
@@ -278,30 +226,30 @@ module _ (sha256 : List ℕ → List ℕ) where
 -- ---- the audit
 
 -- a board that does not begin with the head of a genesis of 18 words gets the answer that it got before, but for a later one of 18 words
-pub audit-before : (sha256 : List ℕ → List ℕ) (ws vs roll : List ℕ) (index ballots : ℕ) → getD ws 0 0 ≢ traitsHead
-    → let is = audit (formatOf sha256 ws) ws vs roll index ballots in
-    let was = Before.audit (secp256r1 sha256 1) ws vs roll index ballots in
-    (is ≡ was) ⊎ LaterGenesis sha256 ws was is
+pub audit-before : (s : Hashes) (ws vs roll : List ℕ) (index ballots : ℕ) → getD ws 0 0 ≢ traitsHead
+    → let is = audit (formatOf s ws) ws vs roll index ballots in
+    let was = Before.audit (formatOn s secp256r1 1) ws vs roll index ballots in
+    (is ≡ was) ⊎ LaterGenesis s ws was is
 unfolding audit Before.audit if_then_else_
-audit-before sha256 ws vs roll index ballots other =
-    rw (narrow-board sha256 ws (λ e. absurd (other e)))
+audit-before s ws vs roll index ballots other =
+    rw (other-board s ws other)
     (by-test (isTooLarge ws) (λ q. rw q (inl refl))
-    (λ q. rw q (by-test (isShort index ballots) (λ s. rw s (inl refl))
-    (λ s. rw s (by-test (isBadRoll roll) (λ b. rw b (inl refl))
-    (λ b. rw b (by-test (isEmpty ws) (λ e. rw e (inl refl)) (λ e. rw e (all-same sha256 (onRoll roll) ws vs other)))))))))
+    (λ q. rw q (by-test (isShort index ballots) (λ t. rw t (inl refl))
+    (λ t. rw t (by-test (isBadRoll roll) (λ b. rw b (inl refl))
+    (λ b. rw b (by-test (isEmpty ws) (λ e. rw e (inl refl)) (λ e. rw e (all-same s (onRoll roll) ws vs other)))))))))
 
 -- as one does that begins with the head of a genesis of 17 words
-pub today-before : (sha256 : List ℕ → List ℕ) (ws vs roll : List ℕ) (index ballots : ℕ) → getD ws 0 0 ≡ 0x10010011
-    → let is = audit (formatOf sha256 ws) ws vs roll index ballots in
-    let was = Before.audit (secp256r1 sha256 1) ws vs roll index ballots in
-    (is ≡ was) ⊎ LaterGenesis sha256 ws was is
-today-before sha256 ws vs roll index ballots e = audit-before sha256 ws vs roll index ballots (λ t. absurd (omega arith))
+pub today-before : (s : Hashes) (ws vs roll : List ℕ) (index ballots : ℕ) → getD ws 0 0 ≡ 0x10010011
+    → let is = audit (formatOf s ws) ws vs roll index ballots in
+    let was = Before.audit (formatOn s secp256r1 1) ws vs roll index ballots in
+    (is ≡ was) ⊎ LaterGenesis s ws was is
+today-before s ws vs roll index ballots e = audit-before s ws vs roll index ballots (λ t. absurd (omega arith))
 
 -- so the same of these boards are accepted, with the same history, and so with the same report and tables
-pub accepted-before : (sha256 : List ℕ → List ℕ) (ws vs roll : List ℕ) (index ballots : ℕ) → getD ws 0 0 ≢ traitsHead → (h : History)
-    → (audit (formatOf sha256 ws) ws vs roll index ballots ≡ accepted h)
-    ↔ (Before.audit (secp256r1 sha256 1) ws vs roll index ballots ≡ accepted h)
-accepted-before sha256 ws vs roll index ballots other h =
+pub accepted-before : (s : Hashes) (ws vs roll : List ℕ) (index ballots : ℕ) → getD ws 0 0 ≢ traitsHead → (h : History)
+    → (audit (formatOf s ws) ws vs roll index ballots ≡ accepted h)
+    ↔ (Before.audit (formatOn s secp256r1 1) ws vs roll index ballots ≡ accepted h)
+accepted-before s ws vs roll index ballots other h =
     ⊎-elim (λ same. rw same (λ e. e, λ e. e))
     (λ d. (λ e. cc (d .now), λ e. cc (d .before)))
-    (audit-before sha256 ws vs roll index ballots other)
+    (audit-before s ws vs roll index ballots other)

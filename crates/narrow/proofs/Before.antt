@@ -14,7 +14,7 @@ use borrow.Author.Tests.{ne-eqb, le-leb, lt-leb, leb-true, leb-false}
 use Rattle.model.specs.Lists.{_⇒_, part, any}
 use Rattle.model.specs.Words.{countOf, bit, inWords, member, size, allIn}
 use Rattle.model.specs.Codes.{genesisType}
-use Rattle.model.specs.Format.{Format, secp256r1}
+use Rattle.model.specs.Format.{Format, Hashes, secp256r1, formatOn}
 use Rattle.model.specs.Traits.{traitsKnown}
 use Rattle.model.specs.Item.{Item, code, time, word}
 use Rattle.model.specs.Types.{administrator, zeros, Counts, from_to_, setAndEach, Row, table, Listed, fits}
@@ -35,7 +35,7 @@ use Rattle.narrow.specs.Before as Before
 -- ---- tests
 
 -- what is asked only under a premise
-implies-same : (a b c : Bool) → (T a → b ≡ c) → (a ⇒ b) ≡ (a ⇒ c)
+pub implies-same : (a b c : Bool) → (T a → b ≡ c) → (a ⇒ b) ≡ (a ⇒ c)
 unfolding _⇒_
 implies-same true b c g = g tt
 implies-same false b c g = refl
@@ -148,9 +148,9 @@ others-before i n = rw (ne-eqb (code i) 1 n)
 
 -- ---- the rules
 
-module _ (sha256 : List ℕ → List ℕ) where
+module _ (s : Hashes) where
   abbrev f : Format
-  f = secp256r1 sha256 1
+  f = formatOn s secp256r1 1
 
   -- checks 5 and 6: the rows are those of before, but that genesis has 17 words or 18
   pub table-before : table f
@@ -198,10 +198,10 @@ module _ (sha256 : List ℕ → List ℕ) where
   phase-before p i = rw (open-before (orderly p) i)
 
   -- check 13
-  module _ {h : History} (o : Orderly f h) (i : Item) (s : Shaped f i) (l : Listed f (i .head))
+  module _ {h : History} (o : Orderly f h) (i : Item) (shaped : Shaped f i) (l : Listed f (i .head))
       (c : T (fits (l .row .counts) (countOf (i .head)))) where
     words-are : (t n : ℕ) → T (countType f t n) → T (eqb (code i) t) → length (i .content) ≡ n
-    words-are t n b q = s .content ∙ count-type-law t n (countOf (i .head)) b l (eqb→eq (code i) t q) c
+    words-are t n b q = shaped .content ∙ count-type-law t n (countOf (i .head)) b l (eqb→eq (code i) t q) c
 
     contest-before : contestOk f i ≡ Before.contestOk i
     unfolding contestOk Before.contestOk
@@ -230,7 +230,7 @@ module _ (sha256 : List ℕ → List ℕ) where
         let no = ne-eqb (code i) 1 (omega arith) in
         let none = ne-eqb (code i) 16 (omega arith) in
         rw (
-          part-one 0 (i .content) 0 (omega (arith, s .content)),
+          part-one 0 (i .content) 0 (omega (arith, shaped .content)),
           one-size w,
           one-all w (mayVote h i) (Before.mayVote h i) (vote-before o i no none),
           one-cryptograms 17 (Before.size w) (i .content),
@@ -250,4 +250,4 @@ module _ (sha256 : List ℕ → List ℕ) where
 
   pub content-before : {on : Eligibility} {ws vs : List ℕ} {h : History} → Passed f on ws vs h → (i : Item) → Shaped f i
       → (l : Listed f (i .head)) → T (fits (l .row .counts) (countOf (i .head))) → contentOk f h i ≡ (genesisOk i && Before.contentOk f h i)
-  content-before p i s l c = same-content (orderly p) i s l c
+  content-before p i shaped l c = same-content (orderly p) i shaped l c

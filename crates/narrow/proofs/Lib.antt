@@ -1,2 +1,4 @@
 pub mod Before
+pub mod Walk
 pub mod Audit
+pub mod OneCurve

@@ -15,7 +15,7 @@ use Rattle.model.specs.Codes.{voterCommitmentType, serverCommitmentType, ballot
 use Rattle.model.specs.Codes.{intentType, extractionType, confirmationType, trackType, verifierType, voterOpeningType, serverOpeningType}
 use Rattle.model.specs.Refusal.{tooLarge, shortTable, emptyBoard, truncated, unknownType, wrongCount, wrongAddress, wrongPrevious, wrongParent}
 use Rattle.model.specs.Refusal.{earlierTime, outOfPhase, duplicate, badContent, noVerdict, wrongKey, badSignature, badRoll, notOnRoll}
-use Rattle.model.specs.Format.{Format, secp256r1, keySize, fingerprintSize, shareSize}
+use Rattle.model.specs.Format.{Format, Hashes, secp256r1, formatOn, keySize, fingerprintSize, shareSize}
 use Rattle.model.specs.Traits.{traitsHead}
 use Rattle.model.specs.Item.{Item, itemAt, behind, code, time, word}
 use Rattle.model.specs.Types.{Writer, administrator, ballotBox, authorizer, voter, verifier, ParentRule, zeros, latestConfig, ofType}
@@ -250,10 +250,10 @@ upToSecond = truncated ∷ wrongAddress ∷ wrongPrevious ∷ wrongParent ∷ ea
 
 -- behind so many items, at least one, stands the head of a genesis of 18 words. Its count was not in the table, 6; now it is, and the item is
 -- refused as a second genesis, 12, or by a check before that
-pub record LaterGenesis (sha256 : List ℕ → List ℕ) (ws : List ℕ) (was is : Outcome) : Type 0 where
+pub record LaterGenesis (s : Hashes) (ws : List ℕ) (was is : Outcome) : Type 0 where
   pub passed : ℕ
   pub later : 1 ≤ passed
-  pub head : getD ws (placeOf (secp256r1 sha256 1) ws passed) 0 ≡ traitsHead
+  pub head : getD ws (placeOf (formatOn s secp256r1 1) ws passed) 0 ≡ traitsHead
   pub before : was ≡ refused wrongCount passed
   pub number : ℕ
   pub now : is ≡ refused number passed

@@ -1,1 +1,2 @@
 pub mod Before
+pub mod OneCurve

@@ -30,7 +30,8 @@ pub items-hashed : {kept later : List ℕ} {i j : model.Item} {a b : Item} {r : 
 items-hashed x y q = q ∙ rw (x .item, y .item)
 
 pub items-addressed : {kept later : List ℕ} {i j : model.Item} {a b : Item} {r : Bool} → IsItem kept i a → IsItem later j b
-    → r ≡ sameWords (part (a .address) 8 kept) (part (b .address) 8 later) → r ≡ sameWords (i .address) (j .address)
+    → r ≡ sameWords (part (a .address) (a .end - a .address) kept) (part (b .address) (b .end - b .address) later)
+    → r ≡ sameWords (i .address) (j .address)
 items-addressed x y q = q ∙ rw (address-read (x .read), address-read (y .read), x .item, y .item)
 
 module _ (ks ls : List model.Item) where

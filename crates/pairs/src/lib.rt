@@ -1,8 +1,9 @@
 // Comparing the main items of a kept board with those of a later one, from a main number of the later one backwards. Both boards are read
 // through the index tables that their audits left.
 ghost use mathlib.Core.Path.{_≡_};
-ghost use Prim.Native.Nat.{_≤_};
-ghost use Rattle.model.specs.Lists.{count};
+ghost use Prim.Native.Nat.{_+_, _≤_};
+ghost use lib.ListN.{length};
+ghost use Rattle.model.specs.Lists.{part, count};
 ghost use Rattle.model.specs.Words.{sameWords};
 ghost use Rattle.model.specs.History.{main, mainItem};
 ghost use Rattle.model.specs.Compare.{backwards, compare};
@@ -26,10 +27,20 @@ pub fn same_hashed(kept: &[u32], a: Item, later: &[u32], b: Item) -> bool
     requires { ⌜ (Read (now kept) a) × (Read (now later) b) ⌝ }
     ensures { λ r. ⌜ r ≡ sameWords (hashedAt (now (kept .entry)) (a .place)) (hashedAt (now (later .entry)) (b .place)) ⌝ }
 {
-    if a.head.count != b.head.count {
+    let n = a.signature - a.place;
+    let m = b.signature - b.place;
+    same_runs(kept, a.place, n, later, b.place, m)
+}
+
+// Whether the n words of a at i are the m words of b at j.
+fn same_runs(a: &[u32], i: usize, n: usize, b: &[u32], j: usize, m: usize) -> bool
+    requires { ⌜ (i + n ≤ length (now a)) × (j + m ≤ length (now b)) ⌝ }
+    ensures { λ r. ⌜ r ≡ sameWords (part i n (now (a .entry))) (part j m (now (b .entry))) ⌝ }
+{
+    if n != m {
         return false;
     }
-    words::same_words(kept, a.place, later, b.place, a.signature - a.place)
+    words::same_words(a, i, b, j, n)
 }
 
 // The main item of a main number.
@@ -122,7 +133,9 @@ pub fn compare(
 {
     let end = main_item(kept, kept_index, kept_items, a);
     let asked = main_item(later, later_index, later_items, b);
-    if !words::same_words(kept, end.address, later, asked.address, Item::ADDRESS) {
+    let width = end.end - end.address;
+    let asked_width = asked.end - asked.address;
+    if !same_runs(kept, end.address, width, later, asked.address, asked_width) {
         return Agreement::Apart;
     }
     backwards(

@@ -14,11 +14,10 @@ use Rattle.model.specs.Report.{Report, reportOf, ballotsAfter}
 use Rattle.model.specs.Program.{fromBytes, bytesPerWord, programLimit, verdictLimit, rollKept, textOf, sized, programOutcome, filesOutcome, printed}
 use Rattle.model.proofs.Report.{audit-numbered}
 use Rattle.model.proofs.Bound.{few-ballots}
-use Rattle.sha256_block.specs.Fips.{sha256Words}
 use Rattle.model.proofs.Acceptance.{accepted↔sound}
 use Rattle.model.proofs.Program.{length-from-bytes}
 use Rattle.model.proofs.Traits.{least-item, format-take}
-use Rattle.format.specs.Format.{formatOf}
+use Rattle.format.specs.Format.{hashes, formatOf}
 use Rattle.text.specs.Answer.{textFrom, reportText}
 use Rattle.text.specs.Put.{Shown}
 use Rattle.text.proofs.Answer.{reportText-textOf, textFrom-sized}
@@ -81,7 +80,7 @@ kept buffer file i p e r = rw (e, take-min) (sym (r .bytes))
 
 -- the format of a board is that of the bytes that are kept
 kept-format : (b : List ℕ) → formatOf (fromBytes (take (bytesPerWord * programLimit) b)) ≡ formatOf (fromBytes b)
-kept-format b = ap formatOf (fromBytes-take programLimit (bytesPerWord * programLimit) b refl) ∙ format-take sha256Words programLimit (fromBytes b) (omega arith)
+kept-format b = ap formatOf (fromBytes-take programLimit (bytesPerWord * programLimit) b refl) ∙ format-take hashes programLimit (fromBytes b) (omega arith)
 
 -- the outcome for files, from the bytes that are kept of them
 kept-outcome : (b v w : List ℕ)
@@ -91,7 +90,7 @@ kept-outcome : (b v w : List ℕ)
 kept-outcome b v w =
     ap (λ (f : Format). programOutcome f (length b) (length v) (length w)
     (fromBytes (take (bytesPerWord * programLimit) b)) (fromBytes (take (bytesPerWord * verdictLimit) v)) (fromBytes (take (bytesPerWord * rollKept) w))) (kept-format b)
-    ∙ kept-enough (formatOf (fromBytes b)) b v w (least-item sha256Words (fromBytes b))
+    ∙ kept-enough (formatOf (fromBytes b)) b v w (least-item hashes (fromBytes b))
 
 -- what is printed for files, from the bytes that are kept of them
 pub printed-shown : (board verdicts roll b v w : List ℕ) (i j n p q r : ℕ) {l m : List ℕ} {k : ℕ}

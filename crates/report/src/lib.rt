@@ -7,7 +7,7 @@ ghost use Rattle.model.specs.Report.{reportOf};
 ghost use Rattle.format.specs.Format.{formatOf};
 ghost use Rattle.refusal.specs.Number.{numberOf};
 ghost use Rattle.report.specs.Reported.{reported};
-use format::item::Item;
+use format::format::Format;
 use refusal::Refusal;
 
 pub enum Answer {
@@ -25,13 +25,17 @@ pub enum Answer {
     },
 }
 
-// The answer, and beside it the end address: that of the last main item, zeros for a refusal. (An enum holds no array.)
+// The answer, and beside it the end address: that of the last main item, of 8, 12 or 16 words, and zeros; zeros for a refusal. (An enum
+// holds no array.)
 pub struct Report {
     pub answer: Answer,
-    pub end: [u32; 8],
+    pub end: [u32; 16],
 }
 
 impl Report {
+    // Words of the end address: as many as the longest address has.
+    pub const END: usize = Format::LONGEST;
+
     // A refusal after so many items.
     pub fn refused(refusal: Refusal, items: usize) -> Self
         requires { ⌜ items ≤ itemLimit ⌝ }
@@ -42,7 +46,7 @@ impl Report {
                 refusal,
                 items: items as u32,
             },
-            end: [0; Item::ADDRESS],
+            end: [0; Report::END],
         }
     }
 }

@@ -5,3 +5,4 @@ pub mod SampleElection
 pub mod SampleTrack
 pub mod SampleRoll
 pub mod SampleWide
+pub mod SampleCurves

@@ -1,6 +1,6 @@
--- A whole election under a toy hash, found sound by computing its audit: a spoiled ballot with its hidden track, a counted ballot, and the
+-- A whole election under toy hashes, found sound by computing its audit: a spoiled ballot with its hidden track, a counted ballot, and the
 -- extraction. So what is proved of sound boards is proved of boards that have all of that. Assumes nothing.
-use Prim.Native.Nat.{ℕ, _-_, _≤_}
+use Prim.Native.Nat.{ℕ, _+_, _-_, _*_, _≤_}
 use native.Mathlib.Omega.{arith}
 use mathlib.Core.Path.{_≡_, refl, ap, _∙_}
 use mathlib.Core.List.{List, [], _∷_, _++_}
@@ -9,8 +9,8 @@ use lib.Dec.{lit≤}
 use lib.Count.{onesIn}
 use Rattle.model.specs.Lists.{if_then_else_, _⇒_, part, any, count, keep, latest}
 use Rattle.model.specs.Words.{kindOf, codeOf, countOf, sameWords, pair, closingWord, lowZero, bit, inWords, size, everyBelow, allIn}
-use Rattle.model.specs.Format.{Format, secp256r1, keySize}
-use Rattle.model.specs.Traits.{traitsKnown}
+use Rattle.model.specs.Format.{Format, Hashes, Curve, secp256r1, formatOn, keySize}
+use Rattle.model.specs.Traits.{traitsKnown, formatOf}
 use Rattle.model.specs.Item.{Item, itemLength, itemAt, hashed, wordsOf}
 use Rattle.model.specs.Types.{rowOf, rowIn, table, fits}
 use Rattle.model.specs.History.{History, main, entry, firstFrom, lastFrom, mainItem, endAfter, endAddress, parentNumber, sessionNumber, entryOf, closer, placeOf, history}
@@ -22,28 +22,39 @@ use Rattle.model.specs.Content.{contestsOk, mayVote, cryptogramsOk, genesisOk, 
 use Rattle.model.specs.Roll.{electors, rising, isBadRoll, onRoll, onRollOk}
 use Rattle.model.specs.Keys.{opening, keyOf, goodVerdict, verdictOk, keyOk, signatureOk}
 use Rattle.model.specs.Audit.{Outcome, unread, refused, accepted, firstUnmet, checks, faultIn, closing, judged, wordAt, items, audit, indexNeed, ballotNeed}
-use Rattle.model.specs.Report.{reportOf, numberWord, indexRowOf, indexRows, ballotRows}
+use Rattle.model.specs.Report.{filled, reportOf, numberWord, indexRowOf, indexRows, ballotRows}
 use Rattle.model.specs.Sound.{Sound}
 use Rattle.model.specs.Ancestry.{upTo, ancestry}
 use Rattle.model.specs.Program.{digits, spaced, acceptedLine, rowLines, textOf}
 use Rattle.model.proofs.Acceptance.{accepted↔sound}
 use Rattle.model.proofs.Unchecked.{length-history, accepted-history}
 
--- the last word, eight times over: of an item's hashed words that is the low word of its time
-abbrev pub toy : Format
-toy = secp256r1 (λ ws. replicate 8 (getD ws (length ws - 1) 0)) 1
+-- toy hashes: the last word, 384 times it and 512 times it, as often as a digest has words. Of an item's hashed words the last is the low word
+-- of its time
+abbrev last : List ℕ → ℕ
+last ws = getD ws (length ws - 1) 0
 
--- an item: its head and content, and eight times each the times of its parent, of the item before it and of itself
-abbrev pub item : ℕ → List ℕ → ℕ → ℕ → ℕ → Item
-item head content parent previous time = record {
+abbrev pub toys : Hashes
+toys = record { sha256 = λ ws. replicate 8 (last ws); sha384 = λ ws. replicate 12 (384 * last ws); sha512 = λ ws. replicate 16 (512 * last ws) }
+
+abbrev pub toy : Format
+toy = formatOn toys secp256r1 1
+
+-- an item written on a curve: its head and content, and the digests of the times of its parent, of the item before it and of itself. Those of 0 are
+-- zeros. A signature has no word that an address has
+abbrev pub itemOn : Curve → ℕ → List ℕ → ℕ → ℕ → ℕ → Item
+itemOn c head content parent previous time = record {
   head = head;
   content = content;
-  parent = replicate 8 parent;
-  previous = replicate 8 previous;
+  parent = c .hash toys (parent ∷ []);
+  previous = c .hash toys (previous ∷ []);
   stamp = 0 ∷ time ∷ [];
-  signature = replicate 16 0;
-  address = replicate 8 time;
+  signature = replicate (c .signature) 99;
+  address = c .hash toys (time ∷ []);
 }
+
+abbrev pub item : ℕ → List ℕ → ℕ → ℕ → ℕ → Item
+item = itemOn secp256r1
 
 -- eight times a number
 abbrev pub key : ℕ → List ℕ
@@ -58,34 +69,42 @@ infix 80 _by_
 abbrev pub _by_ : Item → ℕ → Signed
 i by k = record { item = i; under = k }
 
--- the keys of administrator, ballot box, authorizer, voter and verifier are 1 to 5. Item n has the time n.
-unfoldable pub election : List Signed
-election =
-    item 0x10010011 (7 ∷ key 1 ++ key 2) 0 0 1 by 1
-    ∷ item 0x10030001 (0 ∷ []) 1 1 2 by 1
-    ∷ item 0x1004000A (1 ∷ 1 ∷ key 0) 2 2 3 by 1
-    ∷ item 0x10050009 (1 ∷ key 3) 3 3 4 by 1
-    ∷ item 0x10060006 (0 ∷ 1 ∷ 0 ∷ 0 ∷ 0 ∷ 100 ∷ []) 4 4 5 by 1
-    ∷ item 0x10100013 (9 ∷ 5 ∷ key 4 ++ key 0 ++ (1 ∷ [])) 5 5 6 by 3
+-- the keys of administrator, ballot box, authorizer, voter and verifier are 1 to 5. Item n has the time n. Given are the curve, the traits word or
+-- none, the last words of the commitments and of the cryptogram that is cast, and the fingerprint of the counted ballots
+abbrev pub electionOn : Curve → List ℕ → ℕ → ℕ → List ℕ → List Signed
+electionOn c traits commitmentEnd cryptogramEnd fingerprint =
+    let write = itemOn c in
+    let commitment = replicate {A = ℕ} (c .commitment - 1) 0 ++ (commitmentEnd ∷ []) in
+    let cryptogram = replicate {A = ℕ} (c .cryptogram - 1) 6 in
+    write (0x10010011 + length traits) (7 ∷ key 1 ++ key 2 ++ traits) 0 0 1 by 1
+    ∷ write 0x10030001 (0 ∷ []) 1 1 2 by 1
+    ∷ write 0x1004000A (1 ∷ 1 ∷ key 0) 2 2 3 by 1
+    ∷ write 0x10050009 (1 ∷ key 3) 3 3 4 by 1
+    ∷ write 0x10060006 (0 ∷ 1 ∷ 0 ∷ 0 ∷ 0 ∷ 100 ∷ []) 4 4 5 by 1
+    ∷ write 0x10100013 (9 ∷ 5 ∷ key 4 ++ key 0 ++ (1 ∷ [])) 5 5 6 by 3
     -- a ballot that is checked on a hidden track, and spoiled
-    ∷ item 0x10110009 (replicate 9 0) 6 6 7 by 4
-    ∷ item 0x10120009 (replicate 9 0) 7 7 8 by 2
-    ∷ item 0x10130012 (1 ∷ replicate 16 6 ++ (0x70000 ∷ [])) 8 8 9 by 4
-    ∷ item 0x20300000 [] 9 9 10 by 2
-    ∷ item 0x20310008 (key 5) 10 10 11 by 5
-    ∷ item 0x10150000 [] 9 9 12 by 4
-    ∷ item 0x20320001 (0 ∷ []) 11 11 13 by 4
-    ∷ item 0x20330001 (0 ∷ []) 13 13 14 by 2
+    ∷ write (0x10110000 + c .commitment) commitment 6 6 7 by 4
+    ∷ write (0x10120000 + c .commitment) commitment 7 7 8 by 2
+    ∷ write (0x10130001 + c .cryptogram) (1 ∷ cryptogram ++ (0x70000 ∷ [])) 8 8 9 by 4
+    ∷ write 0x20300000 [] 9 9 10 by 2
+    ∷ write 0x20310008 (key 5) 10 10 11 by 5
+    ∷ write 0x10150000 [] 9 9 12 by 4
+    ∷ write 0x20320001 (0 ∷ []) 11 11 13 by 4
+    ∷ write 0x20330001 (0 ∷ []) 13 13 14 by 2
     -- a ballot that is cast
-    ∷ item 0x10110009 (replicate 9 0) 6 12 15 by 4
-    ∷ item 0x10120009 (replicate 9 0) 15 15 16 by 2
-    ∷ item 0x10130012 (1 ∷ replicate 16 6 ++ (0x80000 ∷ [])) 16 16 17 by 4
-    ∷ item 0x10140000 [] 17 17 18 by 4
-    -- extraction: the fingerprint of the one counted ballot is its last word, eight times over
-    ∷ item 0x10200000 [] 5 18 19 by 1
-    ∷ item 0x10210008 (replicate 8 0x80000) 19 19 20 by 2
-    ∷ item 0x10220011 (1 ∷ replicate 16 0) 20 20 21 by 1
+    ∷ write (0x10110000 + c .commitment) commitment 6 12 15 by 4
+    ∷ write (0x10120000 + c .commitment) commitment 15 15 16 by 2
+    ∷ write (0x10130001 + c .cryptogram) (1 ∷ cryptogram ++ (cryptogramEnd ∷ [])) 16 16 17 by 4
+    ∷ write 0x10140000 [] 17 17 18 by 4
+    -- extraction
+    ∷ write 0x10200000 [] 5 18 19 by 1
+    ∷ write 0x10210008 fingerprint 19 19 20 by 2
+    ∷ write 0x10220011 (1 ∷ replicate 16 0) 20 20 21 by 1
     ∷ []
+
+-- the fingerprint of the one counted ballot is its last word, eight times over
+unfoldable pub election : List Signed
+election = electionOn secp256r1 [] 0 0x80000 (replicate 8 0x80000)
 
 unfoldable pub wordsIn : List Signed → List ℕ
 wordsIn [] = []
@@ -95,8 +114,12 @@ unfoldable pub verdictsIn : List Signed → List ℕ
 verdictsIn [] = []
 verdictsIn (s ∷ ss) = goodVerdict (key (s .under)) ++ verdictsIn ss
 
+-- a board of these items
+abbrev pub boardOf : List Signed → List ℕ
+boardOf ss = wordsIn ss ++ (closingWord (length ss) ∷ [])
+
 abbrev pub board : List ℕ
-board = wordsIn election ++ (closingWord 21 ∷ [])
+board = boardOf election
 
 abbrev pub verdicts : List ℕ
 verdicts = verdictsIn election
@@ -104,6 +127,10 @@ verdicts = verdictsIn election
 -- the voter of the session, and two who do not vote
 abbrev pub roll : List ℕ
 roll = 3 ∷ 2 ∷ 9 ∷ 5 ∷ 20 ∷ 0 ∷ []
+
+-- the answer to a board in its own format
+abbrev pub ownAnswer : List Signed → Outcome
+ownAnswer ss = audit (formatOf toys (boardOf ss)) (boardOf ss) (verdictsIn ss) roll indexNeed ballotNeed
 
 -- how many items an accepted board has
 unfoldable pub items-in : Outcome → ℕ
@@ -116,7 +143,7 @@ unfolding election wordsIn verdictsIn wordsOf hashed if_then_else_ _⇒_ part an
 all-accepted = refl
 
 -- so it is accepted, with its first items
-accepted-by : (f : Format) (ws vs roll : List ℕ) (index ballots n : ℕ) (o : Outcome) → audit f ws vs roll index ballots ≡ o → items-in o ≡ n → 1 ≤ n
+pub accepted-by : (f : Format) (ws vs roll : List ℕ) (index ballots n : ℕ) (o : Outcome) → audit f ws vs roll index ballots ≡ o → items-in o ≡ n → 1 ≤ n
     → o ≡ accepted (history f ws n)
 unfolding items-in
 accepted-by f ws vs roll index ballots n (unread m) q e l = absurd (omega arith)
@@ -153,18 +180,19 @@ votes = refl
 
 -- what is reported and printed of a history with so many items and main items, this end address and these counted ballots
 module _ (h : History) {n m : ℕ} {xs : List Vote} (items : length h ≡ n) (mains : count main h ≡ m) (votes : counted h ≡ xs) where
-  report-by : (f : Format) {a : List ℕ} → endAddress f h ≡ a
-      → reportOf f (accepted h) ≡ record { number = 0; items = n; mains = m; end = a; ballots = length xs; weight = totalWeight xs }
+  pub report-by : (f : Format) {a : List ℕ} → endAddress f h ≡ a
+      → reportOf f (accepted h) ≡ record { number = 0; items = n; mains = m; end = filled 16 a; ballots = length xs; weight = totalWeight xs }
   unfolding reportOf
-  report-by f end = λ i. record { number = 0; items = items i; mains = mains i; end = end i; ballots = length (votes i); weight = totalWeight (votes i) }
+  report-by f end =
+      λ i. record { number = 0; items = items i; mains = mains i; end = filled 16 (end i); ballots = length (votes i); weight = totalWeight (votes i) }
 
   text-by : textOf (accepted h) ≡ acceptedLine n m (length xs) (totalWeight xs) ++ rowLines (ballotRows xs)
   unfolding textOf
   text-by = λ i. acceptedLine (items i) (mains i) (length (votes i)) (totalWeight (votes i)) ++ rowLines (ballotRows (votes i))
 
 pub is-reported : reportOf toy (accepted (history toy board 21))
-    ≡ record { number = 0; items = 21; mains = 17; end = replicate 8 21; ballots = 1; weight = 5 }
-unfolding totalWeight
+    ≡ record { number = 0; items = 21; mains = 17; end = replicate 8 21 ++ replicate 8 0; ballots = 1; weight = 5 }
+unfolding totalWeight filled
 is-reported = report-by past (length-history toy board 21) mains votes toy end
 
 pub ballot-row : ballotRows (counted (history toy board 21)) ≡ 13 ∷ 9 ∷ 5 ∷ []

@@ -3,10 +3,10 @@
 use Prim.Native.Nat.{ℕ}
 use mathlib.Core.Path.{_≡_, refl, ap}
 use mathlib.Core.List.{List, [], _∷_, _++_}
-use lib.ListN.{length, take}
+use lib.ListN.{take}
 use lib.Count.{onesIn}
 use Rattle.model.specs.Lists.{if_then_else_, _⇒_, part, any, count, keep, latest}
-use Rattle.model.specs.Words.{kindOf, codeOf, countOf, sameWords, pair, closingWord, lowZero, bit, inWords, size, everyBelow, allIn}
+use Rattle.model.specs.Words.{kindOf, codeOf, countOf, sameWords, pair, lowZero, bit, inWords, size, everyBelow, allIn}
 use Rattle.model.specs.Traits.{traitsKnown}
 use Rattle.model.specs.Item.{itemLength, itemAt, hashed, wordsOf}
 use Rattle.model.specs.Types.{rowOf, rowIn, table, fits}
@@ -19,7 +19,7 @@ use Rattle.model.specs.Content.{contestsOk, mayVote, cryptogramsOk, genesisOk, 
 use Rattle.model.specs.Roll.{electors, rising, isBadRoll, onRoll, onRollOk, rollWeight}
 use Rattle.model.specs.Keys.{opening, keyOf, verdictOk, keyOk, signatureOk}
 use Rattle.model.specs.Audit.{Outcome, unread, refused, accepted, firstUnmet, checks, faultIn, closing, judged, wordAt, items, audit, indexNeed, ballotNeed}
-use Rattle.samples.proofs.SampleElection.{Signed, _by_, item, key, toy, election, wordsIn, verdictsIn, board, verdicts, roll, items-in, is-accepted, votes}
+use Rattle.samples.proofs.SampleElection.{Signed, _by_, item, key, toy, election, wordsIn, verdictsIn, boardOf, board, verdicts, roll, items-in, is-accepted, votes}
 
 -- the answer for the election with a roll
 abbrev answer : List ℕ → Outcome
@@ -27,7 +27,7 @@ answer roll = audit toy board verdicts roll indexNeed ballotNeed
 
 -- and for other items
 abbrev answerOf : List Signed → List ℕ → Outcome
-answerOf ss roll = audit toy (wordsIn ss ++ (closingWord (length ss) ∷ [])) (verdictsIn ss) roll indexNeed ballotNeed
+answerOf ss roll = audit toy (boardOf ss) (verdictsIn ss) roll indexNeed ballotNeed
 
 -- item 6 is the session: voter 9, with the weight 5. The others do not vote, one of them with the weight 0
 pub with-roll : answer roll ≡ accepted (history toy board 21)

@@ -3,10 +3,10 @@
 use Prim.Native.Nat.{ℕ}
 use mathlib.Core.Path.{_≡_, refl}
 use mathlib.Core.List.{List, [], _∷_, _++_}
-use lib.ListN.{length, take}
+use lib.ListN.{take}
 use lib.Count.{onesIn}
 use Rattle.model.specs.Lists.{if_then_else_, _⇒_, part, any, count, keep, latest}
-use Rattle.model.specs.Words.{kindOf, codeOf, countOf, sameWords, pair, closingWord, lowZero, bit, inWords, size, everyBelow, allIn}
+use Rattle.model.specs.Words.{kindOf, codeOf, countOf, sameWords, pair, lowZero, bit, inWords, size, everyBelow, allIn}
 use Rattle.model.specs.Traits.{traitsKnown}
 use Rattle.model.specs.Item.{Item, itemLength, itemAt, hashed, wordsOf}
 use Rattle.model.specs.Types.{rowOf, rowIn, table, fits}
@@ -19,10 +19,10 @@ use Rattle.model.specs.Content.{contestsOk, mayVote, cryptogramsOk, genesisOk, 
 use Rattle.model.specs.Roll.{electors, rising, isBadRoll, onRoll, onRollOk}
 use Rattle.model.specs.Keys.{opening, keyOf, verdictOk, keyOk, signatureOk}
 use Rattle.model.specs.Audit.{Outcome, refused, firstUnmet, checks, faultIn, closing, judged, wordAt, items, audit, indexNeed, ballotNeed}
-use Rattle.samples.proofs.SampleElection.{Signed, _by_, item, toy, election, wordsIn, verdictsIn, roll, items-in}
+use Rattle.samples.proofs.SampleElection.{Signed, _by_, item, toy, election, wordsIn, verdictsIn, boardOf, roll, items-in}
 
 abbrev outcome : List Signed → Outcome
-outcome ss = audit toy (wordsIn ss ++ (closingWord (length ss) ∷ [])) (verdictsIn ss) roll indexNeed ballotNeed
+outcome ss = audit toy (boardOf ss) (verdictsIn ss) roll indexNeed ballotNeed
 
 -- the election up to the verifier of the ballot 9, item 11, and two items more, of the voter
 abbrev checked : Item → Item → Outcome

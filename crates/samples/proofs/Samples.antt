@@ -4,7 +4,8 @@ use Prim.Native.Nat.{ℕ, _/_}
 use mathlib.Core.Path.{_≡_, refl}
 use mathlib.Core.List.{List, [], _∷_, _++_, map, map-append}
 use lib.ListN.{length, replicate}
-use Rattle.sha256_block.specs.Fips.{zeroBits, lengthField, padding, padded, sha256Words}
+use Rattle.sha256_block.specs.Fips.{zeroBits, lengthField, padding, padded}
+use Rattle.model.specs.Format.{Hashes}
 use Rattle.model.specs.Item.{hashed}
 use Rattle.model.proofs.SampleTable.{item, Sample, _gives_, samples, samples-hold}
 
@@ -16,13 +17,14 @@ blocks n = length (padded (hashed (item 0 (replicate n 0)))) / 16
 unfoldable pub blockSamples : List Sample
 blockSamples = (map blocks (10 ∷ 11 ∷ []) gives (2 ∷ 3 ∷ [])) ∷ []
 
-unfoldable pub table : List Sample
-table = samples sha256Words ++ blockSamples
+-- whatever the hashes, and so with those of the standard
+unfoldable pub table : Hashes → List Sample
+table s = samples s ++ blockSamples
 
 blocks-hold : map (λ s. s .got) blockSamples ≡ map (λ s. s .want) blockSamples
 unfolding blockSamples blocks item hashed padding zeroBits lengthField
 blocks-hold = refl
 
-pub table-holds : map (λ s. s .got) table ≡ map (λ s. s .want) table
+pub table-holds : (s : Hashes) → map (λ r. r .got) (table s) ≡ map (λ r. r .want) (table s)
 unfolding table
-table-holds = rw (map-append, map-append, samples-hold sha256Words, blocks-hold)
+table-holds s = rw (map-append, map-append, samples-hold s, blocks-hold)

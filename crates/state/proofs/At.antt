@@ -66,11 +66,11 @@ module _ {board index : List ℕ} {s : State} {c : Known} (a : AtItem board inde
     pub place : c .item .place ≡ s .place
     pub content : c .item .content ≡ s .place + 1
     pub parent : c .item .parent ≡ c .item .content + c .item .head .count
-    pub previous : c .item .previous ≡ c .item .parent + 8
-    pub time : c .item .time ≡ c .item .previous + 8
+    pub previous : c .item .previous ≡ c .item .parent + formatOf board .address
+    pub time : c .item .time ≡ c .item .previous + formatOf board .address
     pub signature : c .item .signature ≡ c .item .time + 2
-    pub address : c .item .address ≡ c .item .signature + 16
-    pub end : c .item .end ≡ c .item .address + 8
+    pub address : c .item .address ≡ c .item .signature + formatOf board .signature
+    pub end : c .item .end ≡ c .item .address + formatOf board .address
     pub within : c .item .end ≤ length board
 
   pub at-places : Places

@@ -1,5 +1,6 @@
 -- The rules of session, commitments and ballot, by their tests. Assumes nothing.
 use Prim.Native.Nat.{ℕ, suc, _+_, _-_, _*_, _%_, _^_, _≤_, _<_}
+use native.Mathlib.Nat.{mul-le-mul}
 use native.Mathlib.Omega.{arith}
 use mathlib.Core.Path.{_≡_, sym, ap, _∙_}
 use mathlib.Core.Logic.{_≢_}
@@ -22,7 +23,9 @@ use Rattle.model.proofs.Keys.{session-count}
 use Rattle.format.specs.Format.{formatOf}
 use Rattle.format.specs.Layout.{itemOf}
 use Rattle.format.specs.declared.item.Item as layout
+use Rattle.format.specs.declared.format.Format.{Format}
 use Rattle.format.proofs.Traits
+use Rattle.format.proofs.Traits.{Knows}
 use Rattle.sets.proofs.Sets.{allIn-none, allIn-and}
 use Rattle.index.specs.declared.Known.{Known}
 use Rattle.index.specs.Known.{IsKnown}
@@ -41,22 +44,29 @@ use Rattle.voting.specs.Rules.{AtBallot, ownContests}
 
 -- ---- the last word of each cryptogram
 
-module _ (sets : ℕ) (content : List ℕ) where
-  pub last-none : (k : ℕ) → k ≡ 0 → cryptogramsOk sets 17 k content ≡ true
+-- the words of n cryptograms are few, and there are some where n is not 0
+pub words-few : (n size : ℕ) → n ≤ 256 → size ≤ 34 → n * size ≤ 8704
+words-few n size l m = omega (arith, mul-le-mul l m)
+
+pub words-some : (n size : ℕ) → 1 ≤ n → 1 ≤ size → 1 ≤ n * size
+words-some n size l m = omega (arith, mul-le-mul l m)
+
+module _ (sets each : ℕ) (content : List ℕ) where
+  pub last-none : (k : ℕ) → k ≡ 0 → cryptogramsOk sets each k content ≡ true
   unfolding cryptogramsOk
   last-none k e = rw e
 
   last-step : (k j : ℕ) → k ≡ suc j
-      → cryptogramsOk sets 17 k content ≡ (lowZero 16 (getD content (sets + k * 17 - 1) 0) && cryptogramsOk sets 17 j content)
+      → cryptogramsOk sets each k content ≡ (lowZero 16 (getD content (sets + k * each - 1) 0) && cryptogramsOk sets each j content)
   unfolding cryptogramsOk
   last-step k j e = rw e
 
-  module _ (k last : ℕ) (some : 1 ≤ k) (is : last ≡ getD content (sets + k * 17 - 1) 0) where
-    pub last-go : last % 2 ^ 16 ≡ 0 → cryptogramsOk sets 17 k content ≡ cryptogramsOk sets 17 (k - 1) content
+  module _ (k last : ℕ) (some : 1 ≤ k) (is : last ≡ getD content (sets + k * each - 1) 0) where
+    pub last-go : last % 2 ^ 16 ≡ 0 → cryptogramsOk sets each k content ≡ cryptogramsOk sets each (k - 1) content
     unfolding lowZero
     last-go q = last-step k (k - 1) (omega arith) ∙ rw (← is, eq-eqb _ _ q)
 
-    pub last-stop : (last % 2 ^ 16 ≡ 0 → ⊥) → cryptogramsOk sets 17 k content ≡ false
+    pub last-stop : (last % 2 ^ 16 ≡ 0 → ⊥) → cryptogramsOk sets each k content ≡ false
     unfolding lowZero
     last-stop q = last-step k (k - 1) (omega arith) ∙ rw (← is, ne-eqb _ _ q)
 
@@ -101,10 +111,17 @@ module _ {board index : List ℕ} {s : State} {c : Known} (a : AtItem board inde
   unfolding commitmentOk _⇒_
   commitment-above k l = rw (le-leb voterCommitmentType (code i) (rw (at-code a) at k), lt-leb (code i) serverCommitmentType (rw (at-code a) at l))
 
-  pub commitment-is : voterCommitmentType ≤ c .item .head .code → c .item .head .code ≤ serverCommitmentType → (last : ℕ) → last ≡ word 8 i
-      → eqb (last % 2 ^ 24) 0 ≡ commitmentOk (formatOf board) i
+  pub commitment-is : voterCommitmentType ≤ c .item .head .code → c .item .head .code ≤ serverCommitmentType → {f : Format} → Knows board f
+      → (last : ℕ) → last ≡ word (f .commitment - 1) i → eqb (last % f .unit) 0 ≡ commitmentOk (formatOf board) i
   unfolding commitmentOk _⇒_ lowZero
-  commitment-is k l last e = rw (le-leb voterCommitmentType (code i) (rw (at-code a) at k), le-leb (code i) serverCommitmentType (rw (at-code a) at l), e)
+  commitment-is k l n last e =
+      rw (
+        le-leb voterCommitmentType (code i) (rw (at-code a) at k),
+        le-leb (code i) serverCommitmentType (rw (at-code a) at l),
+        e,
+        n .commitment,
+        n .unit,
+      )
 
   -- ---- 19, ballot
 
@@ -124,7 +141,7 @@ module _ {board index : List ℕ} {s : State} {c : Known} {sets : ℕ} (b : AtBa
 
   pub ballot-places : (18 ≤ c .item .head .count) × (c .item .content + c .item .head .count ≤ length board)
   unfolding hasWords
-  ballot-places = (at-words a ballotType 18 4360 tt (b .type) .0, content-within a)
+  ballot-places = (at-words a ballotType 18 8712 tt (b .type) .0, content-within a)
 
   pub set-within : c .item .content + sets ≤ length board
   set-within = let places = ballot-places in let few = sets-few in omega arith
@@ -139,12 +156,12 @@ module _ {board index : List ℕ} {s : State} {c : Known} {sets : ℕ} (b : AtBa
       ∙ ap (part 0 sets) (at-content-words a)
       ∙ ap (λ (n : ℕ). part 0 n (i a .content)) (b .width)
 
-  -- n contests, and the voter may vote in all of them
-  pub ballot-is : (n : ℕ) (may : Bool) → n ≡ size contests → may ≡ allIn contests (mayVote (h a) (i a))
-      → (eqb (c .item .head .count) (sets + n * 17) && may && cryptogramsOk sets 17 n (part (c .item .content) (c .item .head .count) board))
+  -- n contests, each with its cryptogram of so many words, and the voter may vote in all of them
+  pub ballot-is : (each : ℕ) → each ≡ formatOf board .cryptogram → (n : ℕ) (may : Bool) → n ≡ size contests → may ≡ allIn contests (mayVote (h a) (i a))
+      → (eqb (c .item .head .count) (sets + n * each) && may && cryptogramsOk sets each n (part (c .item .content) (c .item .head .count) board))
       ≡ ballotOk (formatOf board) (h a) (i a)
   unfolding ballotOk _⇒_
-  ballot-is n may d e = rw (is-type a ballotType (b .type), e, d, ballot-set, b .width, content-length a, at-content-words a)
+  ballot-is each g n may d e = rw (g, is-type a ballotType (b .type), e, d, ballot-set, b .width, content-length a, at-content-words a)
 
   -- ---- the contests in which the voter may vote: those of the session that an open round enables
 

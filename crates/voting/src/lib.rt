@@ -49,7 +49,7 @@ fn session_ok(board: &[u32], index: &[u32], s: State, c: Known) -> bool
     1 <= weight && contests_ok(board, s, at, item.head.count - Size::SESSION)
 }
 
-// 17 and 18, commitments: the low 24 bits of the ninth word are zero.
+// 17 and 18, commitments: the spare bits of the last word are zero.
 fn commitment_ok(board: &[u32], index: &[u32], s: State, c: Known) -> bool
     requires { ⌜ AtItem (now board) (now index) s c ⌝ }
     ensures { λ r. ⌜ r ≡ commitmentOk (formatOf (now (board .entry))) (itemAfter (now (board .entry)) (s .items)) ⌝ }
@@ -61,7 +61,8 @@ fn commitment_ok(board: &[u32], index: &[u32], s: State, c: Known) -> bool
         return true;
     }
     let item = c.item;
-    word(board, item, Content::COMMITMENT_END) % Range::COMMITMENT == 0
+    let format = Format::of(board);
+    word(board, item, format.commitment - 1) % format.unit == 0
 }
 
 // 19, ballot: as many cryptograms as contests, each contest one that the voter may vote in, and the spare bits of the cryptograms zero.
@@ -73,15 +74,16 @@ fn ballot_ok(board: &[u32], index: &[u32], s: State, c: Known) -> bool
         return true;
     }
     let item = c.item;
-    let sets = Format::of(board).sets;
+    let format = Format::of(board);
+    let sets = format.sets;
     let cryptograms = words::wide(sets::count(board, item.content, sets));
-    if item.head.count != sets + cryptograms * Size::CRYPTOGRAM {
+    if item.head.count != sets + cryptograms * format.cryptogram {
         return false;
     }
     if !may_vote(board, index, s, c, sets) {
         return false;
     }
-    cryptograms_ok(board, item, sets, cryptograms)
+    cryptograms_ok(board, item, sets, format.cryptogram, cryptograms)
 }
 
 // Whether the voter may vote in each contest of a ballot: the session has it, and an open round enables it.
@@ -116,15 +118,14 @@ fn is_own(board: &[u32], index: &[u32], s: State, c: Known, sets: usize) -> bool
     )
 }
 
-// Whether the low 16 bits of the last word of each of n cryptograms behind a set are zero.
-fn cryptograms_ok(board: &[u32], item: Item, sets: usize, n: usize) -> bool
-    requires { ⌜ (item .content + item .head .count ≤ length (now board)) × (sets ≤ 8) × (n ≤ setBits * sets) ⌝ }
-    ensures { λ r. ⌜ r ≡ cryptogramsOk sets (formatOf (now (board .entry)) .cryptogram) n
-        (part (item .content) (item .head .count) (now (board .entry))) ⌝ }
+// Whether the low 16 bits of the last word of each of n cryptograms of a size behind a set are zero.
+fn cryptograms_ok(board: &[u32], item: Item, sets: usize, size: usize, n: usize) -> bool
+    requires { ⌜ (item .content + item .head .count ≤ length (now board)) × (sets ≤ 8) × (1 ≤ size) × (size ≤ 34) × (n ≤ setBits * sets) ⌝ }
+    ensures { λ r. ⌜ r ≡ cryptogramsOk sets size n (part (item .content) (item .head .count) (now (board .entry))) ⌝ }
 {
     let mut k = n;
     while k > 0 {
-        let last = word(board, item, sets + k * Size::CRYPTOGRAM - 1);
+        let last = word(board, item, sets + k * size - 1);
         if last % Range::CRYPTOGRAM != 0 {
             return false;
         }

@@ -1,3 +1,4 @@
--- Laws of runs of words and of words as bytes.
+-- Laws of runs of words, of words that are written, and of words as bytes.
 pub mod Runs
+pub mod Writing
 pub mod Bytes

@@ -1,8 +1,8 @@
 -- Laws of runs of words: two runs compared word by word, and a list written word by word. Assumes nothing.
-use mathlib.Core.Path.{_≡_, sym, ap, _∙_}
+use mathlib.Core.Path.{_≡_, refl, sym, ap, _∙_}
 use mathlib.Core.List.{List, [], _∷_, _++_}
-use mathlib.Core.Bool.{Bool, true, false, _&&_}
-use Prim.Native.Nat.{ℕ, suc, _+_, _*_, _^_, _≤_, _<_}
+use mathlib.Core.Bool.{Bool, true, false, not, _&&_, and-true, and-assoc, true≢false, false≢true}
+use Prim.Native.Nat.{ℕ, suc, _+_, _-_, _*_, _^_, _≤_, _<_}
 use native.Mathlib.Numerals.{add-one}
 use native.Mathlib.Omega.{arith}
 use lib.ListN.{length, take, drop, getD, set, length-take, replicate, length-replicate, getD-replicate}
@@ -11,7 +11,7 @@ use lib.Dec.{eqb}
 use borrow.Author.Tests.{eq-eqb, ne-eqb}
 use Rattle.model.specs.Lists.{part}
 use Rattle.model.specs.Words.{pair, sameWords}
-use Rattle.model.proofs.Parts.{length-part}
+use Rattle.model.proofs.Parts.{length-part, part-add}
 
 -- ---- parts
 
@@ -31,6 +31,12 @@ part-two s p h =
 pub pair-part : (s : List ℕ) (p : ℕ) → p + 2 ≤ length s → pair (part p 2 s) ≡ getD s p 0 * 2 ^ 32 + getD s (p + 1) 0
 unfolding pair
 pair-part s p h = rw (part-two s p h)
+
+-- four words
+part-four : (s : List ℕ) (p : ℕ) → p + 4 ≤ length s → part p 4 s ≡ getD s p 0 ∷ getD s (p + 1) 0 ∷ getD s (p + 2) 0 ∷ getD s (p + 3) 0 ∷ []
+part-four s p h =
+    let e : p + 2 + 1 ≡ p + 3 = omega arith in
+    part-add p 2 2 s ∙ rw (part-two s p (omega arith), part-two s (p + 2) (omega arith), e)
 
 -- ---- the comparison from word k on
 
@@ -94,6 +100,63 @@ module _ (s : List ℕ) (i n k : ℕ) (hs : i + n ≤ length s) where
 
   pub zeros-end : k ≡ n → Left k ≡ true
   zeros-end h = same-end (part i n s) (replicate n 0) k (omega (arith, length-part i n s hs)) (omega (arith, zeros))
+
+-- ---- four words at a time
+
+-- four words compared, each with its own
+pub same-four : (s t : List ℕ) (i j : ℕ) → i + 4 ≤ length s → j + 4 ≤ length t →
+    (eqb (getD s i 0) (getD t j 0) && eqb (getD s (i + 1) 0) (getD t (j + 1) 0)
+    && eqb (getD s (i + 2) 0) (getD t (j + 2) 0) && eqb (getD s (i + 3) 0) (getD t (j + 3) 0)) ≡ sameWords (part i 4 s) (part j 4 t)
+unfolding sameWords
+same-four s t i j hs ht = simp (part-four s i hs, part-four t j ht, and-assoc, and-true)
+
+-- two runs that begin with runs of one length are the same where these are, and what follows is
+same-append : (xs ys us vs : List ℕ) → length xs ≡ length ys → sameWords (xs ++ us) (ys ++ vs) ≡ (sameWords xs ys && sameWords us vs)
+unfolding sameWords
+same-append [] [] us vs e = refl
+same-append [] (y ∷ ys) us vs e = absurd (omega arith)
+same-append (x ∷ xs) [] us vs e = absurd (omega arith)
+same-append (x ∷ xs) (y ∷ ys) us vs e =
+    ap (eqb x y &&_) (same-append xs ys us vs (omega arith)) ∙ sym (and-assoc (eqb x y) (sameWords xs ys) (sameWords us vs))
+
+-- parts of n + m words
+same-parts : (s t : List ℕ) (i j n m : ℕ) → i + n ≤ length s → j + n ≤ length t →
+    sameWords (part i (n + m) s) (part j (n + m) t) ≡ (sameWords (part i n s) (part j n t) && sameWords (part (i + n) m s) (part (j + n) m t))
+same-parts s t i j n m hs ht =
+    rw (part-add i n m s, part-add j n m t) (same-append _ _ _ _ (length-part i n s hs ∙ sym (length-part j n t ht)))
+
+module _ (s t : List ℕ) (i j n : ℕ) where
+  -- the comparison of what is left from word k on
+  abbrev From : ℕ → Bool
+  From k = sameWords (part (i + k) (n - k) s) (part (j + k) (n - k) t)
+
+  pub fours-all : sameWords (part i n s) (part j n t) ≡ From 0
+  fours-all =
+      let ei : i + 0 ≡ i = omega arith in
+      let ej : j + 0 ≡ j = omega arith in
+      let en : n - 0 ≡ n = omega arith in
+      rw (ei, ej, en)
+
+  module _ (k : ℕ) (hs : i + n ≤ length s) (ht : j + n ≤ length t) (h : k + 4 ≤ n) where
+    abbrev Four : Bool
+    Four = sameWords (part (i + k) 4 s) (part (j + k) 4 t)
+
+    four-first : From k ≡ (Four && From (k + 4))
+    four-first =
+        let en : n - k ≡ 4 + (n - (k + 4)) = omega arith in
+        let ei : i + (k + 4) ≡ i + k + 4 = omega arith in
+        let ej : j + (k + 4) ≡ j + k + 4 = omega arith in
+        rw (en, ei, ej) (same-parts s t (i + k) (j + k) 4 (n - (k + 4)) (omega arith) (omega arith))
+
+    -- the four are the same: it goes on
+    pub fours-go : (r : Bool) → r ≡ Four → not r ≡ false → From k ≡ From (k + 4)
+    fours-go true told q = four-first ∙ rw (sym told)
+    fours-go false told q = absurd (true≢false q)
+
+    -- they are not: the runs are not the same
+    pub fours-stop : (r : Bool) → r ≡ Four → not r ≡ true → From k ≡ false
+    fours-stop false told q = four-first ∙ rw (sym told)
+    fours-stop true told q = absurd (false≢true q)
 
 -- ---- a list written word by word over another
 

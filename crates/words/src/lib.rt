@@ -1,4 +1,4 @@
-// Runs of words: compared, cleared, and read from bytes and written as bytes.
+// Runs of words: compared, cleared, written into a buffer, and read from bytes and written as bytes.
 ghost use mathlib.Core.Path.{_≡_};
 ghost use mathlib.Core.List.{[], _∷_, _++_};
 ghost use Prim.Native.Nat.{_+_, _*_, _/_, _%_, _^_, _≤_, _<_};
@@ -31,8 +31,31 @@ pub fn pair_at(a: &[u32], i: usize) -> u64
     joined(a[i], a[i + 1])
 }
 
-// Whether the n words of a at i are the n words of b at j.
+// Whether the n words of a at i are the n words of b at j. Four a turn: n is a format's width, which the compiler does not know.
 pub fn same_words(a: &[u32], i: usize, b: &[u32], j: usize, n: usize) -> bool
+    requires { ⌜ (i + n ≤ length (now a)) × (j + n ≤ length (now b)) ⌝ }
+    ensures { λ r. ⌜ r ≡ sameWords (part i n (now (a .entry))) (part j n (now (b .entry))) ⌝ }
+{
+    let mut k = 0;
+    while k + 4 <= n {
+        if !same_four(a, i + k, b, j + k) {
+            return false;
+        }
+        k += 4;
+    }
+    same_rest(a, i + k, b, j + k, n - k)
+}
+
+// Whether the four words of a at i are those of b at j. With `&` there is no jump between them, and the compiler compares all at once.
+fn same_four(a: &[u32], i: usize, b: &[u32], j: usize) -> bool
+    requires { ⌜ (i + 4 ≤ length (now a)) × (j + 4 ≤ length (now b)) ⌝ }
+    ensures { λ r. ⌜ r ≡ sameWords (part i 4 (now (a .entry))) (part j 4 (now (b .entry))) ⌝ }
+{
+    (a[i] == b[j]) & (a[i + 1] == b[j + 1]) & (a[i + 2] == b[j + 2]) & (a[i + 3] == b[j + 3])
+}
+
+// Whether the n words of a at i are the n words of b at j, one by one.
+fn same_rest(a: &[u32], i: usize, b: &[u32], j: usize, n: usize) -> bool
     requires { ⌜ (i + n ≤ length (now a)) × (j + n ≤ length (now b)) ⌝ }
     ensures { λ r. ⌜ r ≡ sameWords (part i n (now (a .entry))) (part j n (now (b .entry))) ⌝ }
 {
@@ -44,6 +67,18 @@ pub fn same_words(a: &[u32], i: usize, b: &[u32], j: usize, n: usize) -> bool
         k += 1;
     }
     true
+}
+
+// Writes words into a buffer, from a place on.
+pub fn put(words: &[u32], buffer: &mut [u32], at: usize)
+    requires { ⌜ at + length (now words) ≤ length (now buffer) ⌝ }
+    ensures { λ _. ⌜ now (buffer .exit) ≡ sets (now (buffer .entry)) at (now (words .entry)) ⌝ }
+{
+    let mut i = 0;
+    while i < words.len() {
+        buffer[at + i] = words[i];
+        i += 1;
+    }
 }
 
 // Whether the n words of a at i are zeros.

@@ -6,8 +6,8 @@ use borrow.Author.Needs.{needs}
 use Rattle.answers.proofs.put_report.Statement.{statement}
 use Rattle.answers.proofs.put_report.Tie as tie
 
-end-eight : (s : tie.Start) → length (s .args .report .end) ≡ 8
-end-eight s = search needs
+end-sixteen : (s : tie.Start) → length (s .args .report .end) ≡ 16
+end-sixteen s = search needs
 
 head-words-requires : tie.Need-head-words-requires
 head-words-requires c κs = search needs
@@ -22,7 +22,7 @@ slice-aggregate-put-2 : tie.Need-slice-aggregate-put-2
 slice-aggregate-put-2 c = search needs
 
 put-requires-2 : tie.Need-put-requires-2
-put-requires-2 c κs = let eight = end-eight (c .before .before .before .before .before .before .before .before .before .before) in search needs
+put-requires-2 c κs = let sixteen = end-sixteen (c .before .before .before .before .before .before .before .before .before .before) in search needs
 
 same-length : tie.Need-same-length
 same-length c = search needs
@@ -30,7 +30,7 @@ same-length c = search needs
 returns : tie.Need-returns
 returns c =
     let s = c .before .before .before .before .before .before .before .before .before .before .before .before .before in
-    report-put (s .args .report) (s .args .buffer .now) (c .before .before .before .before .before .before .before .before .before .before .before .head-words .result) (c .before .before .before .before .before .before .before .before .before .before .before .head-words .ensures) (end-eight s) (s .pre) (c .before .before .before .before .before .before .before .put .ensures) (c .before .before .put2 .ensures)
+    report-put (s .args .report) (s .args .buffer .now) (c .before .before .before .before .before .before .before .before .before .before .before .head-words .result) (c .before .before .before .before .before .before .before .before .before .before .before .head-words .ensures) (end-sixteen s) (s .pre) (c .before .before .before .before .before .before .before .put .ensures) (c .before .before .put2 .ensures)
 
 pub put-report-spec : {M : Type 1} → statement M
 put-report-spec =

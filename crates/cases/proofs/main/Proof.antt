@@ -5,10 +5,10 @@ use Rattle.cases.proofs.main.Statement.{statement}
 use Rattle.cases.proofs.main.Tie as tie
 
 abbrev Inv-loop : tie.InvT-loop
-Inv-loop n₀ n = n ≤ 146
+Inv-loop n₀ n = n ≤ 170
 
 abbrev μ-loop : tie.MeasureT-loop
-μ-loop n₀ n = 146 - n
+μ-loop n₀ n = 170 - n
 
 loop-holds : tie.Need-loop-holds Inv-loop μ-loop
 loop-holds c = search needs

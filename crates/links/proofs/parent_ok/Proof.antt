@@ -1,5 +1,6 @@
 -- `parent_ok` meets its contract, rule by rule. Assumes nothing.
 use mathlib.Core.Path.{_∙_}
+use Rattle.format.proofs.Traits.{knows}
 use Rattle.state.proofs.At.{at-places}
 use Rattle.links.proofs.Checks.{parent-zeros, parent-config, no-config, parent-typed, no-typed, typed-in}
 use native.Mathlib.Omega.{arith}
@@ -10,8 +11,14 @@ use Rattle.links.proofs.parent_ok.Tie as tie
 enum-told : tie.Need-enum-told
 enum-told c = search needs
 
+of-requires : tie.Need-of-requires
+of-requires c κs = search needs
+
 is-zero-requires : tie.Need-is-zero-requires
-is-zero-requires c κs = let p = at-places (c .before .before .before .before .pre .0) in omega arith
+is-zero-requires c κs =
+    let p = at-places (c .before .before .before .before .before .pre .0) in
+    let w = knows (c .of .ensures) in
+    omega arith
 
 enum-told-2 : tie.Need-enum-told-2
 enum-told-2 c = search needs
@@ -32,7 +39,9 @@ entry-requires c κs =
     (a .0 .kept, (omega arith, typed-in (a .0) (rule .0 .0) (c .before .before .before .before .before .before .before .args .row) (a .1) (rule .1)))
 
 returns-3 : tie.Need-returns-3
-returns-3 c = rw (c .before .enum-told .given .1) (c .is-zero .ensures ∙ parent-zeros (c .before .before .before .before .before .pre .0))
+returns-3 c =
+    rw (c .before .before .enum-told .given .1)
+    (c .is-zero .ensures ∙ parent-zeros (c .before .before .before .before .before .before .pre .0) _ (knows (c .before .of .ensures) .address))
 
 returns-4 : tie.Need-returns-4
 returns-4 c =
@@ -50,6 +59,7 @@ parent-ok-spec =
     tie.close
     (tie.spec
     enum-told
+    of-requires
     is-zero-requires
     enum-told-2
     returns

@@ -6,11 +6,11 @@ use Prim.Native.Nat.{_-_, _%_, _≤_}
 use mathlib.Core.Path.{_≡_, sym, _∙_}
 use mathlib.Core.Logic.{⊎-elim}
 use lib.ListN.{getD}
-use Rattle.model.specs.Lists.{part}
 use Rattle.model.specs.History.{first}
 use Rattle.chains.specs.Chain.{buckets, lastIn}
+use Rattle.format.proofs.Traits.{sizes}
 use Rattle.index.specs.Kept.{before}
-use Rattle.lookup.specs.Search.{addressed}
+use Rattle.lookup.specs.Search.{addressOn, addressed}
 use Rattle.lookup.specs.Buckets.{byAddress}
 use Rattle.lookup.proofs.Steps.{upTo}
 use Rattle.lookup.proofs.Buckets.{address-small, byAddress-small, chain-words}
@@ -21,7 +21,7 @@ use Rattle.lookup.proofs.first_addressed.Tie as tie
 abbrev Inv-loop : tie.InvT-loop
 Inv-loop board index parents count main at number₀ found₀ number found =
     (number ≤ count) × (lastIn (byAddress board) (getD board at 0 % buckets) number ≡ number)
-    × (first (addressed main (part at 8 board)) (before board count) ≡ first (addressed main (part at 8 board)) (upTo board count number) orElse found)
+    × (first (addressed main (addressOn board at)) (before board count) ≡ first (addressed main (addressOn board at)) (upTo board count number) orElse found)
 
 abbrev μ-loop : tie.MeasureT-loop
 μ-loop board index parents count main at number₀ found₀ number found = number
@@ -30,18 +30,18 @@ mul-of-address : tie.Need-mul-of-address Inv-loop μ-loop
 mul-of-address c = search needs
 
 shared-slice-read-of-address : tie.Need-shared-slice-read-of-address Inv-loop μ-loop
-shared-slice-read-of-address c = search needs
+shared-slice-read-of-address c = let b = sizes (c .before .before .before .before .args .board .now) in omega arith
 
 of-address-requires : tie.Need-of-address-requires Inv-loop μ-loop
 of-address-requires c κs = search needs
 
 last-requires : tie.Need-last-requires Inv-loop μ-loop
-last-requires c κs = let s = c .before .before .before .before .before in (chain-words _ _ (s .pre .1), omega (arith, c .of-address .ensures))
+last-requires c κs = let s = c .before .before .before .before .before in (chain-words _ _ (s .pre .0 .1), omega (arith, c .of-address .ensures))
 
 loop-holds : tie.Need-loop-holds Inv-loop μ-loop
 loop-holds c =
     let s = c .before .before .before .before .before .before in
-    let at = walk-starts (byAddress-small _) (s .pre .0 .few) (s .pre .1) (address-small _) (c .before .of-address .ensures) (c .last .ensures) in
+    let at = walk-starts (byAddress-small _) (s .pre .0 .0 .few) (s .pre .0 .1) (address-small _) (c .before .of-address .ensures) (c .last .ensures) in
     (at .most, at .self, first-starts _ _ _ _ _ (addressed-only _ _ (s .args .main) (s .args .at)) at)
 
 -- within the loop there is an item
@@ -49,13 +49,13 @@ some : (c : tie.In-loop Inv-loop μ-loop) → 1 ≤ c .before .loop .number
 some c = search needs
 
 is-at-requires : tie.Need-is-at-requires Inv-loop μ-loop
-is-at-requires c κs = let s = c .before .before .before .before .before .before .before .before in (s .pre .0, (some c, c .before .loop .inv .0, s .pre .2))
+is-at-requires c κs = let s = c .before .before .before .before .before .before .before .before in (s .pre .0 .0, (some c, c .before .loop .inv .0, s .pre .1))
 
 behind-requires : tie.Need-behind-requires Inv-loop μ-loop
 behind-requires c κs =
     let l = c .before .before .before in
     let s = l .before .before .before .before .before .before .before in
-    (chain-words _ _ (s .pre .1), omega (arith, l .loop .inv .0, s .pre .0 .few))
+    (chain-words _ _ (s .pre .0 .1), omega (arith, l .loop .inv .0, s .pre .0 .0 .few))
 
 -- the item behind it
 next : (c : tie.After-behind Inv-loop μ-loop)
@@ -65,7 +65,7 @@ next : (c : tie.After-behind Inv-loop μ-loop)
 next c =
     let l = c .before .before .before .before in
     let s = l .before .before .before .before .before .before .before in
-    walk-goes (byAddress-small _) (s .pre .0 .few) (s .pre .1) (l .loop .number) (some (c .before .before .before)) (l .loop .inv .0) (l .loop .inv .1) (c .behind .ensures)
+    walk-goes (byAddress-small _) (s .pre .0 .0 .few) (s .pre .0 .1) (l .loop .number) (some (c .before .before .before)) (l .loop .inv .0) (l .loop .inv .1) (c .behind .ensures)
 
 loop-less : tie.Need-loop-less Inv-loop μ-loop
 loop-less c = let at = next c in omega (arith, at .most, some (c .before .before .before))
@@ -74,7 +74,7 @@ loop-again : tie.Need-loop-again Inv-loop μ-loop
 loop-again c =
     let l = c .before .before .before .before in
     let a = l .before .before .before .before .before .before .before .args in
-    let p = addressed (a .main) (part (a .at) 8 (a .board .now)) in
+    let p = addressed (a .main) (addressOn (a .board .now) (a .at)) in
     let k = l .loop .number in
     let i = l .loop .inv in
     let one = some (c .before .before .before) in

@@ -13,7 +13,7 @@ returns : tie.Need-returns
 returns c = parent-own _ _ _ (c .before .before .before .before .pre .1 .0) (c .if1 .taken)
 
 first-addressed-requires : tie.Need-first-addressed-requires
-first-addressed-requires c κs = let s = c .before .before .before .before in (s .pre .0 .0, s .pre .0 .1, parts-within (s .args .item .place) (s .pre .1 .0) (s .pre .1 .1) .parent)
+first-addressed-requires c κs = let s = c .before .before .before .before in (s .pre .0, parts-within (s .args .item .place) (s .pre .1 .0) (s .pre .1 .1) .parent)
 
 returns-2 : tie.Need-returns-2
 returns-2 c = parent-sought _ _ _ (c .before .before .before .before .before .pre .1 .0) (c .before .if1 .left) refl (c .first-addressed .ensures)

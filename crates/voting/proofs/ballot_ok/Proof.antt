@@ -1,16 +1,17 @@
 -- `ballot_ok` meets its contract. Assumes nothing.
-use mathlib.Core.Path.{_≡_, ap, refl, sym, _∙_}
+use mathlib.Core.Path.{_≡_, refl, _∙_}
 use Prim.Native.Nat.{_*_, _≤_}
 use native.Mathlib.Omega.{arith}
 use borrow.Author.Needs.{needs}
 use borrow.Author.Tests.{eq-eqb, ne-eqb, not-true, not-false}
 use Rattle.model.specs.Lists.{part}
 use Rattle.model.specs.Words.{size}
-use Rattle.format.specs.declared.format.Format.{Format}
+use Rattle.format.specs.Format.{formatOf}
+use Rattle.format.proofs.Traits.{knows, sizes}
 use Rattle.sets.proofs.Sets.{set-size-few}
 use Rattle.fields.proofs.Words.{content-within}
 use Rattle.voting.specs.Rules.{AtBallot}
-use Rattle.voting.proofs.Rules.{ballot-other, sets-few, set-within, ballot-is}
+use Rattle.voting.proofs.Rules.{words-few, ballot-other, sets-few, set-within, ballot-is}
 use Rattle.voting.proofs.ballot_ok.Statement.{statement}
 use Rattle.voting.proofs.ballot_ok.Tie as tie
 
@@ -26,7 +27,7 @@ at-ballot : (c : tie.After-of) → let s = c .before .before .before .before .be
 at-ballot c = record {
   at = c .before .before .before .before .before .before .pre;
   type = c .before .before .if1 .left;
-  width = ap (λ (f : Format). f .sets) (c .of .ensures);
+  width = knows (c .of .ensures) .sets;
 }
 
 count-requires : tie.Need-count-requires
@@ -43,40 +44,59 @@ counted c =
 wide-requires : tie.Need-wide-requires
 wide-requires c κs = search needs
 
+-- the size of a cryptogram
+size-is : (c : tie.After-of) → let board = c .before .before .before .before .before .before .args .board .now in
+    (c .of .result .cryptogram ≡ formatOf board .cryptogram) × (1 ≤ c .of .result .cryptogram) × (c .of .result .cryptogram ≤ 34)
+size-is c =
+    let board = c .before .before .before .before .before .before .args .board .now in
+    let is = knows (c .of .ensures) .cryptogram in
+    let b = sizes board in
+    (is, omega arith, omega arith)
+
+-- so many words
+few : (c : tie.After-wide) → c .wide .result * c .before .before .of .result .cryptogram ≤ 8704
+few c =
+    let f = c .before .before in
+    words-few (c .wide .result) (f .of .result .cryptogram) (omega (arith, counted c .1, sets-few (at-ballot f))) (size-is f .2)
+
 mul-if2 : tie.Need-mul-if2
-mul-if2 c = search needs
+mul-if2 c = record { fits = omega (arith, few (c .before)) }
 
 add-if2 : tie.Need-add-if2
-add-if2 c = record { fits = omega (arith, counted c, sets-few (at-ballot (c .before .before))) }
+add-if2 c = record { fits = omega (arith, few (c .before), sets-few (at-ballot (c .before .before .before))) }
 
 returns-2 : tie.Need-returns-2
 returns-2 c =
-    let w = c .before .before in
-    rw (ne-eqb _ _ (c .if2 .taken)) at (ballot-is (at-ballot (w .before .before)) (w .wide .result) _ (counted w .0) refl)
+    let w = c .before .before .before in
+    let f = w .before .before in
+    rw (ne-eqb _ _ (c .if2 .taken)) at (ballot-is (at-ballot f) _ (size-is f .0) (w .wide .result) _ (counted w .0) refl)
 
 may-vote-requires : tie.Need-may-vote-requires
-may-vote-requires c κs = at-ballot (c .before .before .before .before)
+may-vote-requires c κs = at-ballot (c .before .before .before .before .before)
 
 returns-3 : tie.Need-returns-3
 returns-3 c =
-    let w = c .before .before .before .before in
+    let w = c .before .before .before .before .before in
+    let f = w .before .before in
     let may = c .before .may-vote .result in
     rw (eq-eqb _ _ (c .before .before .if2 .left), not-true may (c .if3 .taken)) at
-    (ballot-is (at-ballot (w .before .before)) (w .wide .result) may (counted w .0) (c .before .may-vote .ensures))
+    (ballot-is (at-ballot f) _ (size-is f .0) (w .wide .result) may (counted w .0) (c .before .may-vote .ensures))
 
 cryptograms-ok-requires : tie.Need-cryptograms-ok-requires
 cryptograms-ok-requires c κs =
-    let w = c .before .before .before .before in
-    let b = at-ballot (w .before .before) in
-    (content-within (b .at), sets-few b, counted w .1)
+    let w = c .before .before .before .before .before in
+    let f = w .before .before in
+    let b = at-ballot f in
+    (content-within (b .at), sets-few b, size-is f .1, size-is f .2, counted w .1)
 
 returns-4 : tie.Need-returns-4
 returns-4 c =
-    let w = c .before .before .before .before .before in
+    let w = c .before .before .before .before .before .before in
+    let f = w .before .before in
     let may = c .before .before .may-vote .result in
     c .cryptograms-ok .ensures
     ∙ rw (eq-eqb _ _ (c .before .before .before .if2 .left), not-false may (c .before .if3 .left)) at
-    (ballot-is (at-ballot (w .before .before)) (w .wide .result) may (counted w .0) (c .before .before .may-vote .ensures))
+    (ballot-is (at-ballot f) _ (size-is f .0) (w .wide .result) may (counted w .0) (c .before .before .may-vote .ensures))
 
 pub ballot-ok-spec : {M : Type 1} → statement M
 ballot-ok-spec =

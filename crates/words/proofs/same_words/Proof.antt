@@ -1,50 +1,46 @@
 -- `words::same_words` meets its contract. The invariant: the answer is that for the words from k on. Assumes nothing.
 use mathlib.Core.Path.{_≡_, _∙_, sym}
-use Prim.Native.Nat.{_≤_, _-_}
-use lib.ListN.{drop}
+use Prim.Native.Nat.{_≤_, _-_, _+_}
 use Rattle.model.specs.Lists.{part}
 use Rattle.model.specs.Words.{sameWords}
-use Rattle.words.proofs.Runs.{parts-go, parts-stop, parts-end}
-use native.Mathlib.Omega.{arith}
+use Rattle.words.proofs.Runs.{fours-all, fours-go, fours-stop}
 use borrow.Author.Needs.{needs}
 use Rattle.words.proofs.same_words.Statement.{statement}
 use Rattle.words.proofs.same_words.Tie as tie
 
 abbrev Inv-loop : tie.InvT-loop
 Inv-loop a i b j n k₀ k =
-    (k ≤ n) × (sameWords (part i n a) (part j n b) ≡ sameWords (drop k (part i n a)) (drop k (part j n b)))
+    (k ≤ n) × (sameWords (part i n a) (part j n b) ≡ sameWords (part (i + k) (n - k) a) (part (j + k) (n - k) b))
 
 abbrev μ-loop : tie.MeasureT-loop
 μ-loop a i b j n k₀ k = n - k
 
 loop-holds : tie.Need-loop-holds Inv-loop μ-loop
-loop-holds c = search needs
+loop-holds c =
+    let x = c .before .before .args in
+    (search needs, fours-all (x .a .now) (x .b .now) (x .i) (x .j) (x .n))
 
-add-if1 : tie.Need-add-if1 Inv-loop μ-loop
-add-if1 c = search needs
+add-loop : tie.Need-add-loop Inv-loop μ-loop
+add-loop c = search needs
 
-mul-if1 : tie.Need-mul-if1 Inv-loop μ-loop
-mul-if1 c = search needs
+add-same-four : tie.Need-add-same-four Inv-loop μ-loop
+add-same-four c = search needs
 
-shared-slice-read-if1 : tie.Need-shared-slice-read-if1 Inv-loop μ-loop
-shared-slice-read-if1 c = search needs
+add-same-four-2 : tie.Need-add-same-four-2 Inv-loop μ-loop
+add-same-four-2 c = search needs
 
-add-if1-2 : tie.Need-add-if1-2 Inv-loop μ-loop
-add-if1-2 c = search needs
-
-mul-if1-2 : tie.Need-mul-if1-2 Inv-loop μ-loop
-mul-if1-2 c = search needs
-
-shared-slice-read-if1-2 : tie.Need-shared-slice-read-if1-2 Inv-loop μ-loop
-shared-slice-read-if1-2 c = search needs
+same-four-requires : tie.Need-same-four-requires Inv-loop μ-loop
+same-four-requires c κs = search needs
 
 returns : tie.Need-returns Inv-loop μ-loop
 returns c =
-    let l = c .before .before .before .before in
-    let x = l .before .args in
-    let p = l .before .pre in
+    let l = c .before .before .before in
+    let x = l .before .before .before .args in
+    let p = l .before .before .before .pre in
+    let f = c .before .same-four in
     sym (l .loop .inv .1
-    ∙ parts-stop (x .a .now) (x .b .now) (x .i) (x .j) (x .n) (l .loop .k) (p .0) (p .1) (c .before .before .before .loop-test .taken) (c .if1 .taken))
+    ∙ fours-stop (x .a .now) (x .b .now) (x .i) (x .j) (x .n) (l .loop .k) (p .0) (p .1) (c .before .before .loop-test .taken)
+    (f .result) (f .ensures) (c .if1 .taken))
 
 add-k : tie.Need-add-k Inv-loop μ-loop
 add-k c = search needs
@@ -54,20 +50,30 @@ loop-less c = search needs
 
 loop-again : tie.Need-loop-again Inv-loop μ-loop
 loop-again c =
-    let l = c .before .before .before .before in
-    let x = l .before .args in
-    let p = l .before .pre in (
+    let l = c .before .before .before in
+    let x = l .before .before .before .args in
+    let p = l .before .before .before .pre in
+    let f = c .before .same-four in (
       search needs,
       l .loop .inv .1
-          ∙ parts-go (x .a .now) (x .b .now) (x .i) (x .j) (x .n) (l .loop .k) (p .0) (p .1) (c .before .before .before .loop-test .taken) (c .if1 .left),
+          ∙ fours-go (x .a .now) (x .b .now) (x .i) (x .j) (x .n) (l .loop .k) (p .0) (p .1) (c .before .before .loop-test .taken)
+          (f .result) (f .ensures) (c .if1 .left),
     )
 
+add-same-rest : tie.Need-add-same-rest Inv-loop μ-loop
+add-same-rest c = search needs
+
+add-same-rest-2 : tie.Need-add-same-rest-2 Inv-loop μ-loop
+add-same-rest-2 c = search needs
+
+sub-same-rest : tie.Need-sub-same-rest Inv-loop μ-loop
+sub-same-rest c = search needs
+
+same-rest-requires : tie.Need-same-rest-requires Inv-loop μ-loop
+same-rest-requires c κs = search needs
+
 returns-2 : tie.Need-returns-2 Inv-loop μ-loop
-returns-2 c =
-    let l = c .before in
-    let x = l .before .args in
-    let p = l .before .pre in
-    sym (l .loop .inv .1 ∙ parts-end (x .a .now) (x .b .now) (x .i) (x .j) (x .n) (l .loop .k) (p .0) (p .1) (omega arith))
+returns-2 c = c .same-rest .ensures ∙ sym (c .before .before .loop .inv .1)
 
 pub same-words-spec : {M : Type 1} → statement M
 same-words-spec =
@@ -76,14 +82,16 @@ same-words-spec =
     Inv-loop
     μ-loop
     loop-holds
-    add-if1
-    mul-if1
-    shared-slice-read-if1
-    add-if1-2
-    mul-if1-2
-    shared-slice-read-if1-2
+    add-loop
+    add-same-four
+    add-same-four-2
+    same-four-requires
     returns
     add-k
     loop-less
     loop-again
+    add-same-rest
+    add-same-rest-2
+    sub-same-rest
+    same-rest-requires
     returns-2)

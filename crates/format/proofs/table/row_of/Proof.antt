@@ -1,26 +1,18 @@
 -- `table::row_of` meets its contract. Assumes nothing.
-use mathlib.Core.Path.{_≡_, ap, subst}
 use borrow.Author.Tests.{eq-eqb, ne-eqb, le-leb, lt-leb}
 use Rattle.model.specs.Lists.{if_then_else_}
 use Rattle.model.specs.Types.{rowIn, table}
-use Rattle.format.specs.Format.{formatOf, formatWith}
-use Rattle.format.specs.declared.format.Format.{Format}
-use Rattle.format.proofs.Traits.{sets-few}
-use native.Mathlib.Omega.{arith}
 use borrow.Author.Needs.{needs}
 use Rattle.format.proofs.table.row_of.Statement.{statement}
 use Rattle.format.proofs.table.row_of.Tie as tie
 
 ruleset tests = (eq-eqb, ne-eqb, le-leb, lt-leb)
 
-of-requires : tie.Need-of-requires
-of-requires c κs = search needs
-
 main-row-requires : tie.Need-main-row-requires
-main-row-requires c κs = omega (arith, ap (λ (f : Format). f .sets) (c .before .of .ensures), sets-few (c .before .before .before .args .board .now))
+main-row-requires c κs = search needs
 
 returns : tie.Need-returns
-returns c = rw (c .before .if1 .taken, ← ap (λ (f : Format). f .sets) (c .before .before .of .ensures)) (c .main-row .ensures)
+returns c = rw (c .before .if1 .taken) (c .main-row .ensures)
 
 hidden-row-requires : tie.Need-hidden-row-requires
 hidden-row-requires c κs = search needs
@@ -34,4 +26,4 @@ returns-3 c = search tests
 
 pub row-of-spec : {M : Type 1} → statement M
 row-of-spec =
-    tie.close (tie.spec of-requires main-row-requires returns hidden-row-requires returns-2 returns-3)
+    tie.close (tie.spec main-row-requires returns hidden-row-requires returns-2 returns-3)

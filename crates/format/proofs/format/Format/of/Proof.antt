@@ -1,7 +1,4 @@
 -- `Format::of` meets its contract. Assumes nothing.
-use Prim.Native.Nat.{_%_}
-use mathlib.Core.Path.{sym, ap, _∙_}
-use Rattle.format.proofs.Traits.{sets-wide, sets-narrow}
 use borrow.Author.Needs.{needs}
 use Rattle.format.proofs.format.Format.of.Statement.{statement}
 use Rattle.format.proofs.format.Format.of.Tie as tie
@@ -9,11 +6,16 @@ use Rattle.format.proofs.format.Format.of.Tie as tie
 traits-of-requires : tie.Need-traits-of-requires
 traits-of-requires c κs = search needs
 
-returns : tie.Need-returns
-returns c = sets-wide _ (ap (_% 2) (sym (c .before .traits-of .ensures)) ∙ c .if1 .taken)
+sets-of-requires : tie.Need-sets-of-requires
+sets-of-requires c κs = search needs
 
-returns-2 : tie.Need-returns-2
-returns-2 c = sets-narrow _ (λ q. c .if1 .left (ap (_% 2) (c .before .traits-of .ensures) ∙ q))
+on-curve-requires : tie.Need-on-curve-requires
+on-curve-requires c κs = search needs
+
+returns : tie.Need-returns
+returns c =
+    let t = c .before .before in
+    rw (← t .traits-of .ensures, ← c .before .sets-of .ensures) (c .on-curve .ensures)
 
 pub of-spec : {M : Type 1} → statement M
-of-spec = tie.close (tie.spec traits-of-requires returns returns-2)
+of-spec = tie.close (tie.spec traits-of-requires sets-of-requires on-curve-requires returns)

@@ -1,12 +1,18 @@
--- `Item::at` meets its contract. A count is below 2^16, so no place is past what a number holds. Assumes nothing.
-use mathlib.Core.Path.{ap}
-use Rattle.model.specs.Words.{countOf}
-use Rattle.format.specs.declared.head.Head.{Head}
-use Rattle.format.proofs.Places.{laid-out}
+-- `Item::at` meets its contract. A count is below 2 ^ 16 and a format's sizes are small, so no place is past what a number holds. Assumes nothing.
 use native.Mathlib.Omega.{arith}
 use borrow.Author.Needs.{needs}
+use Rattle.format.proofs.Places.{Small, small, laid-out}
 use Rattle.format.proofs.item.Item.at.Statement.{statement}
 use Rattle.format.proofs.item.Item.at.Tie as tie
+
+-- after both calls
+sizes : (c : tie.After-of2) → Small (c .of2 .result) (c .before .before .of .result)
+sizes c =
+    let s = c .before .before .before .before in
+    small (s .args .board .now) (s .args .place) (c .of2 .ensures) (c .before .before .of .ensures)
+
+of-requires : tie.Need-of-requires
+of-requires c κs = search needs
 
 mul-of : tie.Need-mul-of
 mul-of c = search needs
@@ -14,48 +20,45 @@ mul-of c = search needs
 shared-slice-read-of : tie.Need-shared-slice-read-of
 shared-slice-read-of c = search needs
 
-of-requires : tie.Need-of-requires
-of-requires c κs = search needs
+of-requires-2 : tie.Need-of-requires-2
+of-requires-2 c κs = search needs
 
 add-content : tie.Need-add-content
 add-content c = search needs
 
 add-parent : tie.Need-add-parent
-unfolding countOf
-add-parent c = omega (arith, ap (λ (h : Head). h .count) (c .before .of .ensures))
+add-parent c = let b = sizes (c .before) in omega arith
 
 add-previous : tie.Need-add-previous
-unfolding countOf
-add-previous c = omega (arith, ap (λ (h : Head). h .count) (c .before .of .ensures))
+add-previous c = let b = sizes (c .before .before) in omega arith
 
 add-time : tie.Need-add-time
-unfolding countOf
-add-time c = omega (arith, ap (λ (h : Head). h .count) (c .before .of .ensures))
+add-time c = let b = sizes (c .before .before .before) in omega arith
 
 add-signature : tie.Need-add-signature
-unfolding countOf
-add-signature c = omega (arith, ap (λ (h : Head). h .count) (c .before .of .ensures))
+add-signature c = let b = sizes (c .before .before .before) in omega arith
 
 add-address : tie.Need-add-address
-unfolding countOf
-add-address c = omega (arith, ap (λ (h : Head). h .count) (c .before .of .ensures))
+add-address c = let b = sizes (c .before .before .before .before) in omega arith
 
 add-end : tie.Need-add-end
-unfolding countOf
-add-end c = omega (arith, ap (λ (h : Head). h .count) (c .before .of .ensures))
+add-end c = let b = sizes (c .before .before .before .before .before) in omega arith
 
 returns : tie.Need-returns
 returns c =
-    let s = c .before .before .before .before in
-    laid-out (s .args .board .now) (s .args .place) (c .before .of .result) (c .before .of .ensures)
+    let t = c .before .before .before .before .before in
+    let f = t .before .before in
+    let s = f .before .before in
+    laid-out (s .args .board .now) (s .args .place) _ _ (t .of2 .ensures) (f .of .ensures)
 
 pub at-spec : {M : Type 1} → statement M
 at-spec =
     tie.close
     (tie.spec
+    of-requires
     mul-of
     shared-slice-read-of
-    of-requires
+    of-requires-2
     add-content
     add-parent
     add-previous

@@ -3,11 +3,11 @@ use mathlib.Core.Path.{_≡_, refl, _∙_}
 use Prim.Native.Nat.{_≤_, _-_}
 use lib.ListN.{length, take}
 use lib.Seq.{sets, take-all}
-use Rattle.answers.proofs.Laws.{sets-more}
+use Rattle.words.proofs.Writing.{sets-more}
 use native.Mathlib.Omega.{arith}
 use borrow.Author.Needs.{needs}
-use Rattle.answers.proofs.put.Statement.{statement}
-use Rattle.answers.proofs.put.Tie as tie
+use Rattle.words.proofs.put.Statement.{statement}
+use Rattle.words.proofs.put.Tie as tie
 
 abbrev Inv-loop : tie.InvT-loop
 Inv-loop words buffer₀ at i₀ buffer i = (i ≤ length words) × (buffer ≡ sets buffer₀ at (take i words)) × (length buffer ≡ length buffer₀)

@@ -1,0 +1,2 @@
+-- The hash of a curve.
+pub mod Digest
