@@ -1,7 +1,7 @@
 //! The audit: every refusal in the paper's order, the report, and both tables.
 
 use crate::format::*;
-use crate::sha256::{sha256, Hash};
+use crate::sha256::sha256;
 use std::collections::HashMap;
 
 /// Number 0 is acceptance. In a refusal all but `number` and `items` is 0.
@@ -12,7 +12,8 @@ pub struct Report {
     pub mains: u32,
     pub ballots: u32,
     pub weight: u64,
-    pub end: [u32; 8],
+    /// Of the last main item.
+    pub end: Digest,
 }
 
 /// The first reason to refuse a board, and the items passed before it.
@@ -44,7 +45,7 @@ pub struct Item {
     pub session: Option<usize>,
     pub mains_before: usize,
     pub time: u64,
-    pub address: [u32; 8],
+    pub address: Digest,
     /// Bit c: an item of type c stands under this one.
     pub children: u64,
 }
@@ -66,32 +67,78 @@ pub struct Counted {
 }
 
 /// The rules that can be put otherwise: a weak hash shows collisions, and a wrong reading of when a ballot
-/// may be opened or cast, of the roll, or of contest sets, tries the checks.
+/// may be opened or cast, of the roll, of the layout, or of contest sets, tries the checks.
 #[derive(Clone, Copy)]
 pub struct Rules {
-    pub hash: Hash,
+    /// Of an item's hashed words, on a board of a curve.
+    pub hash: fn(Curve, &[u32]) -> Digest,
+    /// Of the contents of counted ballots.
+    pub fingerprint: fn(Curve, &[u32]) -> [u32; FINGERPRINT],
     pub may_open: fn(&Opening) -> bool,
     /// Whether its track lets the ballot with this item number be cast.
     pub may_cast: fn(&History, usize) -> bool,
     pub is_good_roll: fn(&[u32]) -> bool,
     /// Whether the roll has what an item of this type with this content needs there.
     pub is_enrolled: fn(roll: &[u32], code: u32, content: &[u32]) -> bool,
+    pub layout: LayoutRules,
     pub sets: SetRules,
 }
 
 /// As the paper has them.
-pub const RULES: Rules =
-    Rules { hash: sha256, may_open: is_spoiled, may_cast: |_, _| true, is_good_roll, is_enrolled, sets: SET_RULES };
+pub const RULES: Rules = Rules {
+    hash: Curve::hash,
+    fingerprint: |_, message| sha256(message),
+    may_open: is_spoiled,
+    may_cast: |_, _| true,
+    is_good_roll,
+    is_enrolled,
+    layout: LAYOUT_RULES,
+    sets: SET_RULES,
+};
+
+/// How a board is laid out, and what is as wide as its curve has it.
+#[derive(Clone, Copy)]
+pub struct LayoutRules {
+    /// The layout of a board, from all its words.
+    pub of: fn(board: &[u32]) -> Layout,
+    /// Whether all traits in a traits word are known.
+    pub traits_fit: fn(u32) -> bool,
+    /// Whether the table has this content count for a type.
+    pub count_fits: fn(Layout, code: u32, n: usize) -> bool,
+    /// The words of a signature, of a cryptogram, of a trustee's share, and of a verdict.
+    pub signature: fn(Curve) -> usize,
+    pub cryptogram: fn(Curve) -> usize,
+    pub trustee: fn(Curve) -> usize,
+    pub verdict: fn(Curve) -> usize,
+    /// Whether the last word of a commitment, or of a cryptogram, ends with the zeros that it must have.
+    pub commitment_fits: fn(Curve, commitment: &[u32]) -> bool,
+    pub cryptogram_fits: fn(Curve, cryptogram: &[u32]) -> bool,
+    /// As much of an address as the check with this number looks at.
+    pub seen: fn(check: u32, Digest) -> Digest,
+}
+
+/// As the paper has them.
+pub const LAYOUT_RULES: LayoutRules = LayoutRules {
+    of: Layout::of,
+    traits_fit: |traits| Layout::known(traits).is_some(),
+    count_fits: Layout::count_fits,
+    signature: |curve| curve.widths().signature,
+    cryptogram: |curve| curve.widths().cryptogram,
+    trustee: |_| TRUSTEE,
+    verdict: |_| VERDICT_WORDS,
+    commitment_fits: |curve, words| ends_with_zeros(words, curve.widths().commitment_zeros),
+    cryptogram_fits: |_, words| ends_with_zeros(words, CRYPTOGRAM_ZEROS),
+    seen: |_, address| address,
+};
+
+/// Whether so many low bits of the last word are zero.
+pub fn ends_with_zeros(words: &[u32], zeros: u32) -> bool {
+    words.last().is_some_and(|last| last.trailing_zeros() >= zeros)
+}
 
 /// How contest sets are read, and what is read beside them at a place that their width moves.
 #[derive(Clone, Copy)]
 pub struct SetRules {
-    /// The width of a board's sets, from all its words.
-    pub width: fn(board: &[u32]) -> Width,
-    /// Whether all traits in a traits word are known.
-    pub traits_fit: fn(u32) -> bool,
-    /// Whether the table has this content count for a type.
-    pub count_fits: fn(Width, code: u32, n: usize) -> bool,
     /// How many contest numbers there are.
     pub contests: fn(Width) -> u32,
     /// The set of one contest.
@@ -103,23 +150,20 @@ pub struct SetRules {
     /// The start and end in the content of a round.
     pub round_times: fn(Width, content: &[u32]) -> (u64, u64),
     /// How many cryptograms there are to be in a ballot with this content.
-    pub cryptograms: fn(Width, content: &[u32]) -> usize,
+    pub cryptograms: fn(Layout, content: &[u32]) -> usize,
     /// The words of the cryptograms in a ballot's content.
-    pub behind_set: fn(Width, content: &[u32]) -> &[u32],
+    pub behind_set: fn(Layout, content: &[u32]) -> &[u32],
 }
 
 /// As the paper has them.
 pub const SET_RULES: SetRules = SetRules {
-    width: Width::of,
-    traits_fit: |traits| traits & !WIDE_SETS == 0,
-    count_fits: Width::count_fits,
     contests: Width::contests,
     one: |_, number| Set::one(number),
     set: Width::set,
     is_defined: |set, defined| !set.is_empty() && set.is_within(defined),
     round_times: Width::round_times,
-    cryptograms: |width, content| width.set(BALLOT, content).count(),
-    behind_set: |width, content| &content[width.words()..],
+    cryptograms: |layout, content| layout.sets.set(BALLOT, content).count(),
+    behind_set: |layout, content| &content[layout.sets.words()..],
 };
 
 /// A voter opening in hand.
@@ -139,18 +183,17 @@ pub fn is_spoiled(opening: &Opening) -> bool {
 
 /// What the items passed so far have established. Items are numbered from 1.
 pub struct History {
-    /// The width of the board's sets.
-    width: Width,
+    layout: Layout,
     items: Vec<Item>,
     /// Item numbers of the main items in order.
     mains: Vec<usize>,
     /// The first item with an address, main and hidden items apart.
-    main_addresses: HashMap<[u32; 8], usize>,
-    hidden_addresses: HashMap<[u32; 8], usize>,
+    main_addresses: HashMap<Digest, usize>,
+    hidden_addresses: HashMap<Digest, usize>,
     latest_config: Option<usize>,
-    administrator: [u32; 8],
-    ballot_box: [u32; 8],
-    authorizer: Option<[u32; 8]>,
+    administrator: [u32; FINGERPRINT],
+    ballot_box: [u32; FINGERPRINT],
+    authorizer: Option<[u32; FINGERPRINT]>,
     /// Trustees m and threshold t.
     threshold: Option<(u32, u32)>,
     rounds: [Option<Round>; 16],
@@ -162,16 +205,16 @@ pub struct History {
 }
 
 impl History {
-    fn new(width: Width) -> History {
+    fn new(layout: Layout) -> History {
         History {
-            width,
+            layout,
             items: Vec::new(),
             mains: Vec::new(),
             main_addresses: HashMap::new(),
             hidden_addresses: HashMap::new(),
             latest_config: None,
-            administrator: ZEROS,
-            ballot_box: ZEROS,
+            administrator: NO_KEY,
+            ballot_box: NO_KEY,
             authorizer: None,
             threshold: None,
             rounds: [None; 16],
@@ -183,6 +226,10 @@ impl History {
         }
     }
 
+    /// How the board is laid out.
+    pub fn layout(&self) -> Layout {
+        self.layout
+    }
     pub fn items(&self) -> usize {
         self.items.len()
     }
@@ -218,35 +265,36 @@ struct Candidate<'a> {
     code: u32,
     content: &'a [u32],
     hashed: &'a [u32],
-    parent: [u32; 8],
-    previous: [u32; 8],
+    parent: Digest,
+    previous: Digest,
     time: u64,
-    address: [u32; 8],
+    address: Digest,
 }
 
 impl Candidate<'_> {
-    fn at(board: &[u32], place: usize) -> Candidate<'_> {
+    /// The item whose head stands there, on a board of a curve with signatures of so many words.
+    fn at(board: &[u32], place: usize, curve: Curve, signature: usize) -> Candidate<'_> {
         let head = board[place];
-        let n = count(head);
-        let after = place + 1 + n;
+        let after = place + 1 + count(head);
+        let previous = after + curve.widths().address;
+        let hashed_end = place + count(head) + curve.hashed_frame();
         Candidate {
             place,
             kind: kind(head),
             code: code(head),
             content: &board[place + 1..after],
-            hashed: &board[place..place + n + HASHED_FRAME],
-            parent: eight(board, after),
-            previous: eight(board, after + 8),
-            time: time(board, after + 16),
-            // Two words of time and sixteen of signature stand before it.
-            address: eight(board, after + 34),
+            hashed: &board[place..hashed_end],
+            parent: curve.address(board, after),
+            previous: curve.address(board, previous),
+            time: time(board, hashed_end - 2),
+            address: curve.address(board, hashed_end + signature),
         }
     }
 }
 
 /// The hashed words of an item on its board.
-pub fn hashed<'a>(board: &'a [u32], item: &Item) -> &'a [u32] {
-    &board[item.place..item.place + item.count + HASHED_FRAME]
+pub fn hashed<'a>(board: &'a [u32], curve: Curve, item: &Item) -> &'a [u32] {
+    &board[item.place..item.place + item.count + curve.hashed_frame()]
 }
 
 /// The audit by the rules as they are.
@@ -349,7 +397,9 @@ fn walk(rules: Rules, given: Board) -> Result<History, Refusal> {
     if board.is_empty() || kind(board[0]) == CLOSING {
         return Err(Refusal { number: 3, items: 0 });
     }
-    let mut history = History::new((rules.sets.width)(board));
+    let mut history = History::new((rules.layout.of)(board));
+    let curve = history.layout.curve;
+    let signature = (rules.layout.signature)(curve);
     let mut place = 0;
     loop {
         let items = history.items();
@@ -360,7 +410,7 @@ fn walk(rules: Rules, given: Board) -> Result<History, Refusal> {
         let head = board[place];
         if kind(head) == CLOSING {
             let number = (head & 0x0fff_ffff) as usize;
-            if number != items || place + 1 != board.len() || verdicts.len() > VERDICT_WORDS * items {
+            if number != items || place + 1 != board.len() || verdicts.len() > (rules.layout.verdict)(curve) * items {
                 return refuse(18);
             }
             return Ok(history);
@@ -371,20 +421,20 @@ fn walk(rules: Rules, given: Board) -> Result<History, Refusal> {
         if kind_of(code(head)) != Some(kind(head)) {
             return refuse(5);
         }
-        if !(rules.sets.count_fits)(history.width, code(head), count(head)) {
+        if !(rules.layout.count_fits)(history.layout, code(head), count(head)) {
             return refuse(6);
         }
-        let length = count(head) + FRAME;
+        let length = count(head) + curve.hashed_frame() + signature + curve.widths().address;
         if place + length > board.len() {
             return refuse(4);
         }
-        let item = Candidate::at(board, place);
+        let item = Candidate::at(board, place, curve, signature);
         let checked = check(rules, given, &history, &item);
         let (parent, session) = match checked {
             Ok(found) => found,
             Err(number) => return refuse(number),
         };
-        append(&mut history, &item, parent, session);
+        append(rules.layout, &mut history, &item, parent, session);
         establish(rules.sets, &mut history, board, &item);
         place += length;
     }
@@ -394,9 +444,10 @@ fn walk(rules: Rules, given: Board) -> Result<History, Refusal> {
 fn check(rules: Rules, given: Board, history: &History, item: &Candidate) -> Result<(usize, Option<usize>), u32> {
     let (board, verdicts) = (given.words, given.verdicts);
     let number = history.items() + 1;
+    let (layout, curve) = (rules.layout, history.layout.curve);
 
     // 7: the address.
-    if (rules.hash)(item.hashed) != item.address {
+    if (layout.seen)(7, (rules.hash)(curve, item.hashed)) != (layout.seen)(7, item.address) {
         return Err(7);
     }
     // 8: the previous item.
@@ -404,11 +455,11 @@ fn check(rules: Rules, given: Board, history: &History, item: &Candidate) -> Res
         MAIN => history.last_main().map_or(ZEROS, |main| main.address),
         _ => item.parent,
     };
-    if item.previous != previous {
+    if (layout.seen)(8, item.previous) != (layout.seen)(8, previous) {
         return Err(8);
     }
     // 9: the parent.
-    let parent = find_parent(history, item, number).ok_or(9u32)?;
+    let parent = find_parent(layout, history, item, number).ok_or(9u32)?;
     // 10: the time.
     let earliest = match item.kind {
         MAIN => history.last_main().map_or(0, |main| main.time),
@@ -436,8 +487,9 @@ fn check(rules: Rules, given: Board, history: &History, item: &Candidate) -> Res
         return Err(21);
     }
     // 14: nine verdict words.
-    let at = (number - 1) * VERDICT_WORDS;
-    if verdicts.len() < at + VERDICT_WORDS {
+    let length = (layout.verdict)(curve);
+    let at = (number - 1) * length;
+    if verdicts.len() < at + length {
         return Err(14);
     }
     let verdict = verdicts[at];
@@ -456,13 +508,14 @@ fn check(rules: Rules, given: Board, history: &History, item: &Candidate) -> Res
 }
 
 /// The parent's item number, if it is found and as listed.
-fn find_parent(history: &History, item: &Candidate, number: usize) -> Option<usize> {
+fn find_parent(layout: LayoutRules, history: &History, item: &Candidate, number: usize) -> Option<usize> {
     let listed = parent_of(item.code);
+    let address = (layout.seen)(9, item.parent);
     if listed == Parent::Zeros {
-        return (item.parent == ZEROS).then_some(number);
+        return (address == ZEROS).then_some(number);
     }
     let addresses = if item.code <= TRACK { &history.main_addresses } else { &history.hidden_addresses };
-    let parent = *addresses.get(&item.parent)?;
+    let parent = *addresses.get(&address)?;
     let as_listed = match listed {
         Parent::Zeros => false,
         Parent::LatestConfig => history.latest_config == Some(parent),
@@ -526,11 +579,12 @@ fn is_second(history: &History, item: &Candidate, parent: usize) -> bool {
 
 /// 13: the content.
 fn content_fits(rules: Rules, history: &History, board: &[u32], item: &Candidate, session: Option<usize>) -> bool {
-    let (sets, width, words) = (rules.sets, history.width, item.content);
+    let (sets, layout, words) = (rules.sets, rules.layout, item.content);
+    let (width, curve) = (history.layout.sets, history.layout.curve);
     let contests_fit = || (sets.is_defined)((sets.set)(width, item.code, words), history.contests);
     match item.code {
         // Only the first genesis comes this far, so that its traits word is the board's.
-        GENESIS => words.get(PLAIN_GENESIS).is_none_or(|&traits| (sets.traits_fit)(traits)),
+        GENESIS => words.get(PLAIN_GENESIS).is_none_or(|&traits| (layout.traits_fit)(traits)),
         CONTEST => words[0] < (sets.contests)(width),
         THRESHOLD => {
             let (m, t) = (words[0], words[1]);
@@ -542,17 +596,18 @@ fn content_fits(rules: Rules, history: &History, board: &[u32], item: &Candidate
             words[0] <= 15 && contests_fit() && start < end
         }
         SESSION => words[1] >= 1 && contests_fit(),
-        VOTER_COMMITMENT | SERVER_COMMITMENT => words[8] & 0x00ff_ffff == 0,
+        VOTER_COMMITMENT | SERVER_COMMITMENT => (layout.commitment_fits)(curve, words),
         BALLOT => {
             let own = history.item(session.expect("a ballot has a session"));
-            ballot_fits(sets, history, item, content(board, own))
+            ballot_fits(rules, history, item, content(board, own))
         }
-        EXTRACTION => words == fingerprint(rules.hash, history, board),
+        EXTRACTION => words == fingerprint(rules, history, board),
         CONFIRMATION => {
             let set = words[0];
             let (m, t) = history.threshold.expect("an extraction follows a threshold");
             let below_m = if m == 32 { u32::MAX } else { (1 << m) - 1 };
-            words.len() == 1 + TRUSTEE * set.count_ones() as usize && set & !below_m == 0 && set.count_ones() >= t
+            let shares = (layout.trustee)(curve) * set.count_ones() as usize;
+            words.len() == 1 + shares && set & !below_m == 0 && set.count_ones() >= t
         }
         _ => true,
     }
@@ -560,21 +615,22 @@ fn content_fits(rules: Rules, history: &History, board: &[u32], item: &Candidate
 
 /// The content of a ballot in a session with this content: as many cryptograms as contests, each contest in the
 /// session's set and enabled by an open round.
-fn ballot_fits(sets: SetRules, history: &History, item: &Candidate, session: &[u32]) -> bool {
-    let (width, words) = (history.width, item.content);
-    if words.len() != width.words() + CRYPTOGRAM * (sets.cryptograms)(width, words) {
+fn ballot_fits(rules: Rules, history: &History, item: &Candidate, session: &[u32]) -> bool {
+    let (sets, layout, words) = (rules.sets, history.layout, item.content);
+    let cryptogram = (rules.layout.cryptogram)(layout.curve);
+    if words.len() != layout.sets.words() + cryptogram * (sets.cryptograms)(layout, words) {
         return false;
     }
-    let contests = (sets.set)(width, BALLOT, words);
-    let allowed = (sets.set)(width, SESSION, session);
+    let contests = (sets.set)(layout.sets, BALLOT, words);
+    let allowed = (sets.set)(layout.sets, SESSION, session);
     let mut enabled = Set::EMPTY;
     for round in history.open_rounds(item.time) {
         enabled |= round.contests;
     }
-    let cryptograms = (sets.behind_set)(width, words);
+    let mut cryptograms = (sets.behind_set)(layout, words).chunks_exact(cryptogram);
     contests.is_within(allowed)
         && contests.is_within(enabled)
-        && cryptograms.chunks_exact(CRYPTOGRAM).all(|c| c[CRYPTOGRAM - 1] & 0xffff == 0)
+        && cryptograms.all(|words| (rules.layout.cryptogram_fits)(layout.curve, words))
 }
 
 /// 21: a session names a voter of the roll, with that voter's weight.
@@ -593,15 +649,15 @@ pub fn is_on_roll(roll: &[u32], voter: u32, weight: u32) -> bool {
 }
 
 /// The hash over the contents of the counted ballots, in order.
-fn fingerprint(hash: Hash, history: &History, board: &[u32]) -> [u32; 8] {
+fn fingerprint(rules: Rules, history: &History, board: &[u32]) -> [u32; FINGERPRINT] {
     let mut message = Vec::new();
     for counted in &history.counted {
         message.extend_from_slice(content(board, history.item(counted.ballot)));
     }
-    hash(&message)
+    (rules.fingerprint)(history.layout.curve, &message)
 }
 
-fn writers_key(history: &History, board: &[u32], item: &Candidate, session: Option<usize>) -> [u32; 8] {
+fn writers_key(history: &History, board: &[u32], item: &Candidate, session: Option<usize>) -> [u32; FINGERPRINT] {
     match writer_of(item.code) {
         // Only the first genesis comes this far, and it is checked under its own key.
         Writer::Administrator if item.code == GENESIS => eight(item.content, 1),
@@ -621,8 +677,9 @@ fn content<'a>(board: &'a [u32], item: &Item) -> &'a [u32] {
 }
 
 /// Puts an item that has passed behind the history.
-fn append(history: &mut History, item: &Candidate, parent: usize, session: Option<usize>) {
+fn append(layout: LayoutRules, history: &mut History, item: &Candidate, parent: usize, session: Option<usize>) {
     let number = history.items() + 1;
+    let sought = (layout.seen)(9, item.address);
     history.items.push(Item {
         code: item.code,
         place: item.place,
@@ -639,9 +696,9 @@ fn append(history: &mut History, item: &Candidate, parent: usize, session: Optio
     }
     if item.kind == MAIN {
         history.mains.push(number);
-        history.main_addresses.entry(item.address).or_insert(number);
+        history.main_addresses.entry(sought).or_insert(number);
     } else {
-        history.hidden_addresses.entry(item.address).or_insert(number);
+        history.hidden_addresses.entry(sought).or_insert(number);
     }
     if is_config(item.code) {
         history.latest_config = Some(number);
@@ -650,7 +707,7 @@ fn append(history: &mut History, item: &Candidate, parent: usize, session: Optio
 
 /// What an item establishes by its type; it is the last of the history.
 fn establish(sets: SetRules, history: &mut History, board: &[u32], item: &Candidate) {
-    let (number, width, words) = (history.items(), history.width, item.content);
+    let (number, width, words) = (history.items(), history.layout.sets, item.content);
     match item.code {
         GENESIS => {
             history.genesis = true;

@@ -10,7 +10,7 @@ use crate::compare::{compare, Comparison, Tables};
 use crate::format::*;
 use crate::interface::*;
 use crate::random::Random;
-use crate::told::{broken, check_told, PROPERTIES};
+use crate::told::{broken, check_end, check_told, PROPERTIES};
 
 /// How often an entry gave each answer: by refusal number, or as follows.
 pub type Tally = [usize; 26];
@@ -24,6 +24,8 @@ pub const SHORT_ANSWER: usize = 25;
 /// A call of an entry: what it gave, and its buffers by name.
 pub struct Call<'a> {
     entry: String,
+    /// Whether its answer has an end address.
+    has_end: bool,
     /// What the answer says of the first board.
     said: Option<Said>,
     given: bool,
@@ -74,7 +76,17 @@ impl Call<'_> {
             check_told(board.board.words, board.board.roll, index.given(), ballots.given())
                 .map_err(|message| format!("{}: {what}: {message}", self.entry))?;
         }
-        Ok(())
+        self.hold_end()
+    }
+
+    /// Holds the end address in the answer of an audit to the board, if that is accepted.
+    pub fn hold_end(&self) -> Result<(), String> {
+        let board = &self.boards[0];
+        if !self.has_end || !board.accepted {
+            return Ok(());
+        }
+        let end = &self.answer()[audit_answer::END..AUDIT_ANSWER];
+        check_end(board.board.words, end).map_err(|message| format!("{}: {message}", self.entry))
     }
 
     /// The words of the answer.
@@ -158,11 +170,11 @@ pub fn call_audit<'a>(
     let boards = vec![Passed { board, accepted: said.is_some_and(|said| said.number == 0), index: 1 }];
     let buffers = vec![(answer, "answer"), (index, "index table"), (ballots, "ballot table")];
     let rolls = vec![(roll, "roll")];
-    Call { entry: "audit".to_string(), said, given, expected: enough, buffers, rolls, boards }
+    Call { entry: "audit".to_string(), has_end: true, said, given, expected: enough, buffers, rolls, boards }
 }
 
-/// Calls the comparison, and the reference beside it. The lengths are of the kept board's two tables,
-/// the later one's, and the answer. None where the library has no such entry.
+/// Calls the comparison at some main number, and the reference beside it. The lengths are of the kept board's two
+/// tables, the later one's, and the answer. None where the library has no such entry.
 pub fn call_compare<'a>(
     with: &Interface,
     case: &'a Case,
@@ -170,9 +182,22 @@ pub fn call_compare<'a>(
     random: &mut Random,
     tally: &mut Tally,
 ) -> Option<Call<'a>> {
-    let entry = with.compare?;
     let (kept, later) = kept_and_later(case);
     let number = asked_main(kept, later, random);
+    call_compare_at(with, case, number, lengths, random, tally)
+}
+
+/// The same at this main number.
+pub fn call_compare_at<'a>(
+    with: &Interface,
+    case: &'a Case,
+    number: usize,
+    lengths: [usize; 5],
+    random: &mut Random,
+    tally: &mut Tally,
+) -> Option<Call<'a>> {
+    let entry = with.compare?;
+    let (kept, later) = kept_and_later(case);
     let [mut ki, mut kb, mut li, mut lb, mut answer] = lengths.map(|len| Buffer::new(len, random));
     let enough = answer.len() >= COMPARE_ANSWER;
     if enough {
@@ -218,7 +243,8 @@ pub fn call_compare<'a>(
         (lb, "later ballot table"),
     ];
     let rolls = vec![(kept_roll, "kept roll"), (later_roll, "later roll")];
-    Some(Call { entry: format!("compare at main {number}"), said, given, expected: enough, buffers, rolls, boards })
+    let entry = format!("compare at main {number}");
+    Some(Call { entry, has_end: false, said, given, expected: enough, buffers, rolls, boards })
 }
 
 /// Whether the kept board and the later one were accepted, by a comparison's answer.
@@ -291,7 +317,8 @@ pub fn call_ancestry<'a>(
     let boards = vec![Passed { board, accepted, index: 2 }];
     let buffers = vec![(answer, "answer"), (list, "list"), (index, "index table"), (ballots, "ballot table")];
     let rolls = vec![(roll, "roll")];
-    Some(Call { entry: format!("ancestry of item {number}"), said, given, expected: enough, buffers, rolls, boards })
+    let entry = format!("ancestry of item {number}");
+    Some(Call { entry, has_end: false, said, given, expected: enough, buffers, rolls, boards })
 }
 
 // ---- the numbers that are asked for ----
@@ -374,8 +401,9 @@ fn guard_pair(board: Board) -> [u32; ROLL_ROW] {
 
 /// The places of the heads, as far as a walk over them goes.
 pub fn places(words: &[u32]) -> impl Iterator<Item = usize> + Clone + '_ {
+    let frame = Layout::of(words).curve.frame();
     let is_head = |&place: &usize| place < words.len() && kind(words[place]) != CLOSING;
-    let next = move |&place: &usize| Some(place + count(words[place]) + FRAME).filter(is_head);
+    let next = move |&place: &usize| Some(place + count(words[place]) + frame).filter(is_head);
     std::iter::successors(Some(0).filter(is_head), next)
 }
 

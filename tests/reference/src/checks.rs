@@ -10,19 +10,19 @@ use crate::format::*;
 use crate::hidden::remove_hidden;
 use crate::interface::*;
 use crate::plan::{Laid, Plan, Spec};
+use crate::program::PROGRAM_WORDS;
 use crate::random::Random;
-use crate::reached::{Ballots, Roll, Sets, ROLLS_WANTED, SETS_WANTED, WANTED};
+use crate::reached::{Ballots, OnCurve, Roll, Sets, CURVES_WANTED, ROLLS_WANTED, SETS_WANTED, WANTED};
 use crate::roll::{any_roll, full_around, roll_of, voters_of};
-use crate::sha256::sha256;
 use crate::sound::{any_shape, make, make_with, many_contests, Expected, Made, Shape, Traits};
-use crate::stand_in::{BALLOTS_NEED_BEFORE, INDEX_NEED_BEFORE};
-use crate::told::{check_told, PROPERTIES};
+use crate::stand_in::{ANSWER_NEED_BEFORE, BALLOTS_NEED_BEFORE, INDEX_NEED_BEFORE};
+use crate::told::{check_end, check_told, PROPERTIES};
 
 /// What is known of a board from its making.
 #[derive(Clone)]
 pub enum Known {
     /// It is sound, and this is what the audit must report; with the place of each head.
-    Sound(Expected, Vec<usize>, [u32; 8]),
+    Sound(Expected, Vec<usize>, Digest),
     /// It is refused with this number after so many items.
     Refused(u32, usize),
     Nothing,
@@ -107,17 +107,17 @@ impl Makers {
         &self.faults[seed as usize % self.faults.len()]
     }
 
-    /// The width of the board that it is put into: both by turns, where both have a place for it.
-    pub fn width(&self, seed: u64) -> Width {
-        let turn = seed as usize / self.faults.len();
-        self.fault(seed).width.unwrap_or([Width::Narrow, Width::Wide][turn % 2])
+    /// The layout of the board that it is put into: by turns, each that has a place for it.
+    pub fn layout(&self, seed: u64) -> Layout {
+        let (turn, layouts) = (seed as usize / self.faults.len(), &self.fault(seed).layouts);
+        layouts[turn % layouts.len()]
     }
 }
 
 fn sound_case(name: String, made: &Made, random: &mut Random) -> Case {
-    let laid = made.plan.lay(sha256);
+    let laid = made.plan.lay();
     let end = (0..laid.addresses.len()).rev().find(|&i| made.plan.items[i].kind == MAIN).expect("a main item");
-    let other = sibling(made, random).lay(sha256);
+    let other = sibling(made, random).lay();
     let known = Known::Sound(made.expected.clone(), laid.places, laid.addresses[end]);
     let (words, verdicts, roll) = (laid.words, laid.verdicts, laid.roll);
     Case { name, words, verdicts, roll, known, other, kept: random.chance(50) }
@@ -139,7 +139,7 @@ fn sibling(made: &Made, random: &mut Random) -> Plan {
     }
     if random.chance(40) {
         for item in &mut plan.items {
-            item.signature[random.below(16)] = random.word();
+            item.signature[random.below(made.layout.curve.widths().signature)] = random.word();
         }
     }
     if random.chance(25) {
@@ -157,24 +157,23 @@ fn sibling(made: &Made, random: &mut Random) -> Plan {
     plan
 }
 
-/// Other traits for a board, which then ends before its first contest set.
+/// Other traits for a board, which then ends before its first contest set, or its first commitment where the sets are
+/// as wide.
 fn give_other_traits(plan: &mut Plan, random: &mut Random) {
-    let first_set = plan.items.iter().position(|s| s.code == ROUND).unwrap_or(plan.items.len());
-    plan.items.truncate(first_set);
+    let (sets, traits) = (plan.layout().sets, *random.pick(&Traits::ALL));
     plan.items[0].content.truncate(PLAIN_GENESIS);
-    plan.items[0].content.extend(random.pick(&Traits::ALL).word());
-    if plan.width() == Width::Narrow {
-        let is_wide = |s: &Spec| s.code == CONTEST && s.content[0] >= Width::Narrow.contests();
-        let end = plan.items.iter().position(is_wide).unwrap_or(first_set);
-        plan.items.truncate(end);
-    }
+    plan.items[0].content.extend(traits.word());
+    let first_other = if traits.layout().sets == sets { VOTER_COMMITMENT } else { ROUND };
+    let is_wide = |s: &Spec| s.code == CONTEST && s.content[0] >= traits.layout().sets.contests();
+    let end = plan.items.iter().position(|s| s.code == first_other || is_wide(s));
+    plan.items.truncate(end.unwrap_or(plan.items.len()));
 }
 
 /// A sound board to put a fault into; with these traits, or any.
 fn board_for_faults(random: &mut Random, traits: Option<Traits>) -> Made {
     let traits = traits.unwrap_or_else(|| Traits::any(random));
-    if traits == Traits::Wide && random.chance(2) {
-        return board_of_many(random);
+    if traits.layout().sets == Width::Wide && random.chance(2) {
+        return board_of_many(traits.layout().curve, random);
     }
     let most = *random.pick(&[20, 60, 120, 120]);
     let mut shape = any_shape(random, most);
@@ -184,7 +183,7 @@ fn board_for_faults(random: &mut Random, traits: Option<Traits>) -> Made {
 
 /// A sound board of this shape, at times with a voter whose number is at an end.
 fn any_board(random: &mut Random, shape: Shape, traits: Traits) -> Made {
-    let mut made = make_with(random, sha256, shape, traits);
+    let mut made = make_with(random, shape, traits);
     let voters: Vec<u32> = voters_of(&made.plan.items).into_keys().collect();
     if !voters.is_empty() && random.chance(25) {
         let ends = [0, 1, 0x7fff_ffff, 0x8000_0000, u32::MAX - 1, u32::MAX];
@@ -230,7 +229,7 @@ pub fn case(makers: &Makers, group: Group, seed: u64) -> Case {
         Group::Full => full_case(makers, &name, seed, random),
         Group::Ballots => {
             let fate = [Fate::Closed, Fate::Open, Fate::Opened][seed as usize % 3];
-            let traits = Traits::ALL[seed as usize / 3 % 3];
+            let traits = Traits::ALL[seed as usize / 3 % Traits::ALL.len()];
             let made = most_ballots(random, fate, traits);
             sound_case(name(&format!("ballots, {fate:?}").to_lowercase()), &made, random)
         }
@@ -262,7 +261,7 @@ fn words_case(name: Name, random: &mut Random) -> Case {
     } else if random.chance(15) {
         (case.words, case.verdicts, case.roll) = no_board(random);
     } else {
-        let mut laid = made.plan.lay(sha256);
+        let mut laid = made.plan.lay();
         damage_words(&mut laid, random);
         case.replace(laid);
     }
@@ -272,18 +271,22 @@ fn words_case(name: Name, random: &mut Random) -> Case {
 /// A board of many contests: sound, with a fault, damaged, as long as there may be, or with ballots of all contests,
 /// at times as many of them as the word limit allows. All are wide but some of those.
 fn contests_case(makers: &Makers, name: Name, seed: u64, random: &mut Random) -> Case {
+    // The curves by turns.
+    let turn = seed as usize / 5;
+    let curve = CURVES[turn % CURVES.len()];
     match seed % 5 {
         0 => {
-            let voters = *random.pick(&[1, 1, 2, MOST_WIDE_BALLOTS]);
-            let traits = [Traits::Wide, Traits::Unsaid, Traits::Wide, Traits::Zero][seed as usize / 5 % 4];
+            let voters = *random.pick(&[1, 1, 2, most_wide_ballots(curve)]);
+            let sets = [Width::Wide, Width::Narrow][turn / CURVES.len() % 2];
+            let traits = Traits::of_layout(Layout { curve, sets }, random);
             sound_case(name("contests, all on each ballot"), &all_contests(random, voters, traits), random)
         }
         1 => {
-            let made = board_of_many(random);
+            let made = board_of_many(curve, random);
             sound_case(name("contests"), &made, random)
         }
         2 => loop {
-            let made = board_of_many(random);
+            let made = board_of_many(curve, random);
             let fault = random.pick(&makers.faults);
             let Some(faulty) = fault.apply(&made, random).filter(|faulty| faulty.number != 0) else { continue };
             let known = Known::Refused(faulty.number, faulty.items);
@@ -291,7 +294,7 @@ fn contests_case(makers: &Makers, name: Name, seed: u64, random: &mut Random) ->
             return faulty_case(name(&what), &made, &faulty.plan, known, random);
         },
         3 => {
-            let made = board_of_many(random);
+            let made = board_of_many(curve, random);
             let mut plan = made.plan.clone();
             damage_plan(&mut plan, random);
             faulty_case(name("contests, damaged"), &made, &plan, Known::Nothing, random)
@@ -299,18 +302,25 @@ fn contests_case(makers: &Makers, name: Name, seed: u64, random: &mut Random) ->
         _ => {
             let shape = Shape { words: Some(MAX_WORDS), ..many_contests(random) };
             let shape = Shape { items: random.between(1_950, MAX_ITEMS), ..shape };
-            let made = make_with(random, sha256, shape, Traits::Wide);
+            let made = make_with(random, shape, Traits::Said(Layout { curve, sets: Width::Wide }));
             sound_case(name("contests, long"), &made, random)
         }
     }
 }
 
-/// The ballots of all 256 contests that fit on a board, with an item of each contest.
-const MOST_WIDE_BALLOTS: usize = 54;
+/// The ballots of all 256 contests that fit on a board, with an item of each contest and eight rounds.
+fn most_wide_ballots(curve: Curve) -> usize {
+    let (frame, widths) = (curve.frame(), curve.widths());
+    // Genesis, threshold, authorizer, contests, rounds, intent, extraction; then the items of one ballot.
+    let others = 18 + 10 + 9 + 256 + 8 * 13 + FINGERPRINT + (3 + 256 + 8 + 2) * frame + 1;
+    let each = 26 + 2 * widths.commitment + 8 + 256 * widths.cryptogram + 5 * frame;
+    (MAX_WORDS - others) / each
+}
 
-fn board_of_many(random: &mut Random) -> Made {
+/// A board of many contests, with wide sets.
+fn board_of_many(curve: Curve, random: &mut Random) -> Made {
     let shape = many_contests(random);
-    make_with(random, sha256, shape, Traits::Wide)
+    make_with(random, shape, Traits::Said(Layout { curve, sets: Width::Wide }))
 }
 
 /// The case of a seed in the group of faults, and the plan that it was laid out from.
@@ -318,7 +328,7 @@ pub fn case_with_fault(makers: &Makers, seed: u64) -> (Case, Faulty) {
     let random = &mut seeded(Group::Faults, seed);
     let fault = makers.fault(seed);
     loop {
-        let traits = Traits::of_width(makers.width(seed), random);
+        let traits = Traits::of_layout(makers.layout(seed), random);
         let made = match fault.all_contests {
             true => all_contests(random, 1, traits),
             false => board_for_faults(random, Some(traits)),
@@ -336,8 +346,8 @@ pub fn case_with_fault(makers: &Makers, seed: u64) -> (Case, Faulty) {
 }
 
 fn faulty_case(name: String, made: &Made, plan: &Plan, known: Known, random: &mut Random) -> Case {
-    let Laid { words, verdicts, roll, .. } = plan.lay(sha256);
-    let other = sibling(made, random).lay(sha256);
+    let Laid { words, verdicts, roll, .. } = plan.lay();
+    let other = sibling(made, random).lay();
     Case { name, words, verdicts, roll, known, other, kept: random.chance(50) }
 }
 
@@ -350,24 +360,32 @@ fn oversize(case: &mut Case, more: usize, random: &mut Random) {
     case.known = Known::Refused(1, 0);
 }
 
-/// A board at the limits: exact sizes, many items.
-pub fn long_shape(which: u64, random: &mut Random) -> Shape {
+/// A board of a curve at the limits: exact sizes, many items.
+pub fn long_shape(which: u64, curve: Curve, random: &mut Random) -> Shape {
     let (items, words) = match which % 4 {
         0 => (MAX_ITEMS, None),
         1 => (MAX_ITEMS, Some(MAX_WORDS)),
         2 => (random.between(1_950, MAX_ITEMS), Some(MAX_WORDS)),
-        _ => (random.between(190, 260), Some(16_384)),
+        // With contents of 42 words, or of 20 to 24.
+        _ => {
+            let least = if curve == Curve::Secp256r1 { 20 } else { 24 };
+            let [fewest, most] = [42, least].map(|content| PROGRAM_WORDS / (curve.frame() + content));
+            (random.between(fewest, most), Some(PROGRAM_WORDS))
+        }
     };
     Shape { items, words, long: 20, voters: random.between(3, 300), extraction: random.chance(60) }
 }
 
 fn long_case(name: Name, seed: u64, random: &mut Random) -> Case {
-    let shape = long_shape(seed, random);
-    let traits = Traits::any(random);
-    let made = make_with(random, sha256, shape, traits);
+    // Each way below comes by turns with three layouts, one of each curve.
+    let (way, turn) = (seed / 4 % 6, seed / 24);
+    let layout = LAYOUTS[(way + 2 * turn) as usize % LAYOUTS.len()];
+    let traits = Traits::of_layout(layout, random);
+    let shape = long_shape(seed, layout.curve, random);
+    let made = make_with(random, shape, traits);
     let mut case = sound_case(name("long, sound"), &made, random);
     let full = made.plan.items.len() == MAX_ITEMS;
-    match seed / 4 % 6 {
+    match way {
         1 if full => {
             // One item more than the limit, or something that looks like one.
             let word = match random.below(4) {
@@ -399,7 +417,7 @@ fn long_case(name: Name, seed: u64, random: &mut Random) -> Case {
         4 => {
             let mut plan = made.plan.clone();
             damage_plan(&mut plan, random);
-            case.replace(plan.lay(sha256));
+            case.replace(plan.lay());
             case.known = Known::Nothing;
             case.name = name("long, damaged");
         }
@@ -530,12 +548,14 @@ fn turn_bit(case: &mut Case, turn: u64, random: &mut Random) {
     let (items, bit) = (places.len(), random.below(32));
     let at = random.below(items);
     let place = places[at];
-    let signature = place + count(case.words[place]) + HASHED_FRAME;
+    let curve = Layout::of(&case.words).curve;
+    let widths = curve.widths();
+    let signature = place + count(case.words[place]) + curve.hashed_frame();
     let verdict = at * VERDICT_WORDS;
     let (on_board, word, refusal) = match turn % 6 {
         0 => (true, random.between(place + 1, signature - 1), Some((7, at))),
-        1 => (true, signature + random.below(16), None),
-        2 => (true, signature + 16 + random.below(8), Some((7, at))),
+        1 => (true, signature + random.below(widths.signature), None),
+        2 => (true, signature + widths.signature + random.below(widths.address), Some((7, at))),
         3 => (true, case.words.len() - 1, Some(if bit < 28 { (18, items) } else { (1, items) })),
         _ => {
             let word = random.below(VERDICT_WORDS);
@@ -561,7 +581,7 @@ pub fn roll_lengths() -> Vec<Case> {
     let random = &mut Random::new(4_096);
     let shape = Shape { items: 40, words: None, long: 0, voters: 4, extraction: true };
     let made = loop {
-        let made = make(random, sha256, shape);
+        let made = make(random, shape);
         if voters_of(&made.plan.items).len() > 2 {
             break made;
         }
@@ -647,7 +667,8 @@ fn check_known_with(case: &Case, index_len: usize, ballots_len: usize, known: &K
         Known::Sound(expected, places, end) => audited.check_sound(expected, places, *end),
     };
     let rows = || match audited.report.number {
-        0 => check_told(&case.words, &case.roll, &audited.index, &audited.ballots),
+        0 => check_told(&case.words, &case.roll, &audited.index, &audited.ballots)
+            .and_then(|()| check_end(&case.words, &audited.report.end)),
         _ => Ok(()),
     };
     held.and_then(|()| rows()).map_err(|message| format!("{}: {message}", case.name))?;
@@ -693,7 +714,7 @@ impl Audited {
     }
 
     /// Whether the board is accepted with what is expected, and nothing else is in the tables.
-    fn check_sound(&self, expected: &Expected, places: &[usize], end: [u32; 8]) -> Result<(), String> {
+    fn check_sound(&self, expected: &Expected, places: &[usize], end: Digest) -> Result<(), String> {
         let given = &self.report;
         if given.number != 0 {
             return Err(format!("made sound, refused {} at {}", given.number, given.items));
@@ -746,6 +767,12 @@ pub fn shown_of_sets(case: &Case, number: u32, items: usize) -> [bool; SETS_WANT
     SETS_WANTED.map(|(_, shows)| shows(&sets))
 }
 
+/// Which of what is wanted on each curve a case shows, of whichever board.
+pub fn shown_of_curve(case: &Case, number: u32, items: usize) -> [bool; CURVES_WANTED.len()] {
+    let on_curve = OnCurve::new(&case.words, number, items, case.other.board());
+    CURVES_WANTED.map(|(_, shows)| shows(&on_curve))
+}
+
 // ---- an implementation against the reference ----
 
 /// A length for a buffer that needs `need`: mostly enough, at times more, at times too short.
@@ -764,7 +791,8 @@ fn answer_length(need: usize, random: &mut Random) -> usize {
     match random.below(60) {
         0 => random.below(need),
         1 => need - 1,
-        2..=4 => need + random.between(1, 5),
+        2 => ANSWER_NEED_BEFORE.min(need - 1),
+        3..=5 => need + random.between(1, 5),
         _ => need,
     }
 }
@@ -812,6 +840,7 @@ fn check_audit_full(with: &Interface, case: &Case, random: &mut Random, tally: &
     Ok(())
 }
 
+/// Sees nothing of the answer but the end address.
 fn check_audit_told(with: &Interface, case: &Case, random: &mut Random, tally: &mut Tally) -> Result<(), String> {
     call_audit(with, case, [INDEX_NEED, BALLOTS_NEED, AUDIT_ANSWER], random, tally).hold_told()
 }
@@ -850,6 +879,7 @@ pub fn check_answer(with: &Interface, board: Board, known: &Answer) -> Result<()
     ];
     for call in calls.iter().flatten() {
         call.hold_said(known.number, known.items)?;
+        call.hold_end()?;
         known.tables.as_ref().map_or(Ok(()), |tables| call.hold_tables(tables))?;
     }
     Ok(())

@@ -1,4 +1,4 @@
-//! Collisions, with a hash so weak that they can be made: what SHA-256 will not show.
+//! Collisions, with a hash so weak that they can be made: what the curves' hashes will not show.
 
 use crate::audit::{audit_with, Rules, RULES};
 use crate::compare::{compare_with, Comparison, Tables};
@@ -9,31 +9,50 @@ use crate::sound::{any_shape, make_with, Made, Traits};
 use crate::told::check_told;
 
 /// A hash of 13 bits. Zero is no value of it, so that no item has the address zeros.
-pub fn weak_hash(message: &[u32]) -> [u32; 8] {
+fn weak(message: &[u32]) -> u32 {
     let mut sum: u32 = 0x9e37_79b9;
     for &word in message {
         sum = (sum ^ word).wrapping_mul(0x85eb_ca6b).rotate_left(13);
     }
     sum ^= message.len() as u32;
     sum = sum.wrapping_mul(0xc2b2_ae35);
-    [(sum >> 19) + 1, 0, 0, 0, 0, 0, 0, 7]
+    (sum >> 19) + 1
 }
 
-const WEAK_RULES: Rules = Rules { hash: weak_hash, ..RULES };
+/// It stands in an address where every curve has a word: with zeros behind them, addresses of two curves can be equal.
+pub fn weak_hash(_: Curve, message: &[u32]) -> Digest {
+    let mut words = ZEROS;
+    (words[0], words[7]) = (weak(message), 7);
+    words
+}
+
+/// It stands in the last word of an address: on larger curves the first eight are always the same.
+fn late_weak_hash(curve: Curve, message: &[u32]) -> Digest {
+    let mut words = ZEROS;
+    words[curve.widths().address - 1] = weak(message);
+    words
+}
+
+/// A hash in the place of the curve's.
+type Hash = fn(Curve, &[u32]) -> Digest;
+
+fn rules(hash: Hash) -> Rules {
+    Rules { hash, ..RULES }
+}
 
 /// Audits a board. Gives the number, and both tables.
-fn run(laid: &Laid) -> (u32, Vec<u32>, Vec<u32>) {
+fn run(hash: Hash, laid: &Laid) -> (u32, Vec<u32>, Vec<u32>) {
     let mut index = vec![3; INDEX_NEED];
     let mut ballots = vec![4; BALLOTS_NEED];
-    let (report, _) = audit_with(WEAK_RULES, laid.board(), &mut index, &mut ballots);
+    let (report, _) = audit_with(rules(hash), laid.board(), &mut index, &mut ballots);
     (report.number, index, ballots)
 }
 
-fn compare_laid(kept: &Laid, later: &Laid, main_number: usize) -> Comparison {
+fn compare_laid(hash: Hash, kept: &Laid, later: &Laid, main_number: usize) -> Comparison {
     let (mut i1, mut b1) = (vec![1; INDEX_NEED], vec![1; BALLOTS_NEED]);
     let (mut i2, mut b2) = (vec![2; INDEX_NEED], vec![2; BALLOTS_NEED]);
     compare_with(
-        WEAK_RULES,
+        [rules(hash); 2],
         kept.board(),
         later.board(),
         main_number,
@@ -42,31 +61,31 @@ fn compare_laid(kept: &Laid, later: &Laid, main_number: usize) -> Comparison {
     )
 }
 
-/// A board that is accepted under the weak hash.
-fn accepted(random: &mut Random) -> (Made, Laid) {
+/// A board that is accepted under a weak hash.
+fn accepted(hash: Hash, random: &mut Random) -> (Made, Laid) {
     loop {
         let shape = any_shape(random, 40);
         let traits = Traits::any(random);
-        let made = make_with(random, weak_hash, shape, traits);
-        let laid = made.plan.lay(weak_hash);
-        if run(&laid).0 == 0 {
+        let made = make_with(random, shape, traits);
+        let laid = made.plan.lay_with(hash);
+        if run(hash, &laid).0 == 0 {
             return (made, laid);
         }
     }
 }
 
 /// Changes a content word of the item at a position until its address is `address`.
-fn forge(plan: &mut Plan, at: usize, word_at: usize, address: [u32; 8], random: &mut Random) -> Option<Laid> {
-    let laid = plan.lay(weak_hash);
+fn forge(hash: Hash, plan: &mut Plan, at: usize, word_at: usize, address: Digest, random: &mut Random) -> Option<Laid> {
+    let (laid, curve) = (plan.lay_with(hash), plan.layout().curve);
     let place = laid.places[at];
     let content = &mut plan.items[at].content;
-    let mut hashed = laid.words[place..place + content.len() + HASHED_FRAME].to_vec();
+    let mut hashed = laid.words[place..place + content.len() + curve.hashed_frame()].to_vec();
     for _ in 0..100_000 {
         let word = random.word();
         hashed[1 + word_at] = word;
-        if word != content[word_at] && weak_hash(&hashed) == address {
+        if word != content[word_at] && hash(curve, &hashed) == address {
             content[word_at] = word;
-            return Some(plan.lay(weak_hash));
+            return Some(plan.lay_with(hash));
         }
     }
     None
@@ -77,16 +96,16 @@ fn main_words<'a>(laid: &'a Laid, plan: &Plan) -> Vec<&'a [u32]> {
     let mut mains = Vec::new();
     for (spec, &place) in plan.items.iter().zip(&laid.places) {
         if spec.kind == MAIN {
-            mains.push(&laid.words[place..place + spec.content.len() + HASHED_FRAME]);
+            mains.push(&laid.words[place..place + spec.content.len() + plan.layout().curve.hashed_frame()]);
         }
     }
     mains
 }
 
-/// Demand 3, told from the boards' hashed words alone.
-fn judge(kept: &[&[u32]], later: &[&[u32]], b: usize) -> Comparison {
+/// Demand 3, told from the boards' curves and hashed words alone.
+fn judge(curves: [Curve; 2], kept: &[&[u32]], later: &[&[u32]], b: usize) -> Comparison {
     let a = kept.len();
-    if weak_hash(kept[a - 1]) != weak_hash(later[b - 1]) {
+    if curves[0] != curves[1] || weak(kept[a - 1]) != weak(later[b - 1]) {
         return Comparison::Apart;
     }
     if a == b && kept == &later[..b] {
@@ -96,7 +115,7 @@ fn judge(kept: &[&[u32]], later: &[&[u32]], b: usize) -> Comparison {
     while kept[a - 1 - d] == later[b - 1 - d] {
         d += 1;
     }
-    assert_eq!(weak_hash(kept[a - 1 - d]), weak_hash(later[b - 1 - d]), "a collision has one address");
+    assert_eq!(weak(kept[a - 1 - d]), weak(later[b - 1 - d]), "a collision has one address");
     Comparison::Collision { kept: (a - d) as u32, later: (b - d) as u32 }
 }
 
@@ -109,12 +128,21 @@ pub struct Seen {
     pub uneven: usize,
     /// Collisions of a narrow board and a wide one.
     pub across: usize,
+    /// Collisions on each curve.
+    pub on_curve: [usize; CURVES.len()],
+    /// Ends of two boards on different curves that have the same words, up to zeros, and are apart.
+    pub curves_apart: usize,
+}
+
+/// The hash of a seed: both by turns.
+fn hash_of(seed: u64) -> Hash {
+    [weak_hash, late_weak_hash][seed as usize % 2]
 }
 
 /// One pair of boards with a forged item, compared at every main item.
 pub fn check(seed: u64, seen: &mut Seen) -> Result<(), String> {
-    let random = &mut Random::new(seed);
-    let (made, kept) = accepted(random);
+    let (random, hash) = (&mut Random::new(seed), hash_of(seed));
+    let (made, kept) = accepted(hash, random);
     let texts: Vec<usize> = (0..made.plan.items.len())
         .filter(|&i| matches!(made.plan.items[i].code, TEXT | CONTEST) && made.plan.items[i].content.len() > 1)
         .collect();
@@ -134,10 +162,11 @@ pub fn check(seed: u64, seen: &mut Seen) -> Result<(), String> {
             at
         };
         let last = later_plan.items[position].content.len() - 1;
-        let Some(forged) = forge(&mut later_plan, position, last, kept.addresses[at], random) else { return Ok(()) };
+        let address = kept.addresses[at];
+        let Some(forged) = forge(hash, &mut later_plan, position, last, address, random) else { return Ok(()) };
         later = forged;
     }
-    let (number, index, ballots) = run(&later);
+    let (number, index, ballots) = run(hash, &later);
     if number != 0 {
         return Ok(());
     }
@@ -145,14 +174,17 @@ pub fn check(seed: u64, seen: &mut Seen) -> Result<(), String> {
     check_told(&later.words, &later.roll, &index, &ballots)
         .map_err(|message| format!("collision seed {seed}: {message}"))?;
     let boards = [(&kept, &made.plan), (&later, &later_plan)];
-    compare_at_each(boards, seen).map_err(|message| format!("collision seed {seed}, {message}"))
+    let before = seen.collision;
+    compare_at_each(hash, boards, seen).map_err(|message| format!("collision seed {seed}, {message}"))?;
+    seen.on_curve[made.layout.curve as usize] += seen.collision - before;
+    Ok(())
 }
 
-/// A narrow board and a wide one with one address of the genesis, and the same items behind it, none of which has a
-/// contest set: at every main number they are apart, or their collision is the genesis.
+/// A narrow board and a wide one, on one curve, with one address of the genesis, and the same items behind it, none of
+/// which has a contest set: at every main number they are apart, or their collision is the genesis.
 pub fn check_across(seed: u64, seen: &mut Seen) -> Result<(), String> {
-    let random = &mut Random::new(seed);
-    let (made, _) = accepted(random);
+    let (random, hash) = (&mut Random::new(seed), hash_of(seed));
+    let (made, _) = accepted(hash, random);
     let has_set = |code: u32| matches!(code, ROUND | SESSION | INTENT);
     let end = made.plan.items.iter().position(|s| has_set(s.code)).unwrap_or(made.plan.items.len());
     let mut narrow = made.plan.clone();
@@ -161,13 +193,14 @@ pub fn check_across(seed: u64, seen: &mut Seen) -> Result<(), String> {
         contest.content[0] %= Width::Narrow.contests();
     }
     narrow.items[0].content.truncate(PLAIN_GENESIS);
+    let curve = made.layout.curve;
     let mut wide = narrow.clone();
-    wide.items[0].content.push(WIDE_SETS);
-    narrow.items[0].content.extend(*random.pick(&[None, Some(0)]));
-    let kept = narrow.lay(weak_hash);
+    wide.items[0].content.push(Layout { curve, sets: Width::Wide }.traits());
+    narrow.items[0].content.extend(Traits::of_layout(Layout { curve, sets: Width::Narrow }, random).word());
+    let kept = narrow.lay_with(hash);
     // The election number is not looked at.
-    let Some(later) = forge(&mut wide, 0, 0, kept.addresses[0], random) else { return Ok(()) };
-    if run(&kept).0 != 0 || run(&later).0 != 0 {
+    let Some(later) = forge(hash, &mut wide, 0, 0, kept.addresses[0], random) else { return Ok(()) };
+    if run(hash, &kept).0 != 0 || run(hash, &later).0 != 0 {
         return Ok(());
     }
     let mut boards = [(&kept, &narrow), (&later, &wide)];
@@ -175,18 +208,46 @@ pub fn check_across(seed: u64, seen: &mut Seen) -> Result<(), String> {
         boards.reverse();
     }
     let before = seen.collision;
-    compare_at_each(boards, seen).map_err(|message| format!("collision across widths, seed {seed}, {message}"))?;
+    compare_at_each(hash, boards, seen)
+        .map_err(|message| format!("collision across widths, seed {seed}, {message}"))?;
     seen.across += seen.collision - before;
     Ok(())
 }
 
+/// Two boards on different curves, without commitments, the first of which ends with an address that is the second's
+/// first one but for zeros: at every main number they are apart.
+pub fn check_curves(seed: u64, seen: &mut Seen) -> Result<(), String> {
+    let random = &mut Random::new(seed);
+    let (made, _) = accepted(weak_hash, random);
+    let end = made.plan.items.iter().position(|s| s.code == VOTER_COMMITMENT).unwrap_or(made.plan.items.len());
+    let others: Vec<Curve> = CURVES.into_iter().filter(|&curve| curve != made.layout.curve).collect();
+    let mut later_plan = made.plan.clone();
+    later_plan.items.truncate(end);
+    let mut kept_plan = later_plan.clone();
+    kept_plan.items[0].content.truncate(PLAIN_GENESIS);
+    kept_plan.items[0].content.push(Layout { curve: *random.pick(&others), ..made.layout }.traits());
+    if random.chance(50) {
+        kept_plan.items.truncate(1);
+    }
+    let kept = kept_plan.lay_with(weak_hash);
+    let last = kept_plan.items.iter().rposition(|s| s.kind == MAIN).expect("a genesis");
+    let Some(later) = forge(weak_hash, &mut later_plan, 0, 0, kept.addresses[last], random) else { return Ok(()) };
+    if run(weak_hash, &kept).0 != 0 || run(weak_hash, &later).0 != 0 {
+        return Ok(());
+    }
+    let boards = [(&kept, &kept_plan), (&later, &later_plan)];
+    compare_at_each(weak_hash, boards, seen).map_err(|message| format!("two curves, seed {seed}, {message}"))?;
+    seen.curves_apart += 1;
+    Ok(())
+}
+
 /// Compares a kept board with a later one at every main number, and holds the answers to demand 3.
-fn compare_at_each(boards: [(&Laid, &Plan); 2], seen: &mut Seen) -> Result<(), String> {
+fn compare_at_each(hash: Hash, boards: [(&Laid, &Plan); 2], seen: &mut Seen) -> Result<(), String> {
     let [(kept, _), (later, _)] = boards;
     let [kept_mains, later_mains] = boards.map(|(laid, plan)| main_words(laid, plan));
     for b in 1..=later_mains.len() {
-        let expected = judge(&kept_mains, &later_mains, b);
-        let given = compare_laid(kept, later, b);
+        let expected = judge(boards.map(|(_, plan)| plan.layout().curve), &kept_mains, &later_mains, b);
+        let given = compare_laid(hash, kept, later, b);
         if given != expected {
             return Err(format!("main {b}: expected {expected:?}, given {given:?}"));
         }

@@ -31,27 +31,33 @@ pub struct Tables<'a> {
 }
 
 pub fn compare(kept: Board, later: Board, main_number: usize, kept_tables: Tables, later_tables: Tables) -> Comparison {
-    compare_with(RULES, kept, later, main_number, kept_tables, later_tables)
+    compare_with([RULES; 2], kept, later, main_number, kept_tables, later_tables)
 }
 
+/// The comparison by any rules, those for the kept board and those for the later one.
 pub fn compare_with(
-    rules: Rules,
+    [kept_rules, later_rules]: [Rules; 2],
     kept: Board,
     later: Board,
     main_number: usize,
     kept_tables: Tables,
     later_tables: Tables,
 ) -> Comparison {
-    let (report, history) = audit_with(rules, kept, kept_tables.index, kept_tables.ballots);
+    let (report, history) = audit_with(kept_rules, kept, kept_tables.index, kept_tables.ballots);
     let Some(kept_history) = history else {
         return Comparison::Refused { side: Side::Kept, number: report.number, items: report.items };
     };
-    let (report, history) = audit_with(rules, later, later_tables.index, later_tables.ballots);
+    let (report, history) = audit_with(later_rules, later, later_tables.index, later_tables.ballots);
     let Some(later_history) = history else {
         return Comparison::Refused { side: Side::Later, number: report.number, items: report.items };
     };
     if main_number == 0 || main_number > later_history.mains() {
         return Comparison::Refused { side: Side::Later, number: 19, items: report.items };
+    }
+    // Addresses of different widths are different, whatever their words.
+    let curve = kept_history.layout().curve;
+    if later_history.layout().curve != curve {
+        return Comparison::Apart;
     }
     let mut a = kept_history.mains();
     let mut b = main_number;
@@ -59,7 +65,7 @@ pub fn compare_with(
         return Comparison::Apart;
     }
     while a >= 1 && b >= 1 {
-        if hashed(kept.words, kept_history.main(a)) != hashed(later.words, later_history.main(b)) {
+        if hashed(kept.words, curve, kept_history.main(a)) != hashed(later.words, curve, later_history.main(b)) {
             return Comparison::Collision { kept: a as u32, later: b as u32 };
         }
         a -= 1;

@@ -22,7 +22,7 @@ fn numbers(words: &[u32]) -> BTreeSet<u32> {
 /// The contests of an item that has a set: a round's stand behind its number, a session's are its last words, a
 /// ballot's its first.
 fn contests(told: &Told, number: usize) -> BTreeSet<u32> {
-    let (content, words) = (told.contents[number - 1], told.set_words);
+    let (content, words) = (told.contents[number - 1], told.fields.set);
     numbers(match told.codes[number - 1] {
         ROUND => &content[1..1 + words],
         SESSION => &content[content.len() - words..],
@@ -62,11 +62,11 @@ pub fn each_contest_is_defined_before(told: &Told) -> Result<(), String> {
     Ok(())
 }
 
-/// A ballot has a cryptogram of seventeen words for each of its contests, and no other words.
+/// A ballot has a cryptogram, as wide as the board's are, for each of its contests, and no other words.
 pub fn each_contest_has_a_cryptogram(told: &Told) -> Result<(), String> {
     for number in told.of(&[BALLOT]) {
         let (words, count) = (told.contents[number - 1].len(), contests(told, number).len());
-        if words != told.set_words + 17 * count {
+        if words != told.fields.set + told.fields.cryptogram * count {
             return Err(format!("ballot {number} has {count} contests, and {words} words"));
         }
     }

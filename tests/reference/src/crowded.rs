@@ -4,7 +4,6 @@
 
 use crate::format::*;
 use crate::random::Random;
-use crate::sha256::sha256;
 use crate::sound::{Made, Maker, Shape, Traits};
 
 /// The types of the items that a counted ballot takes, in order.
@@ -35,14 +34,14 @@ type Cast = (usize, u32, u32);
 struct Voter {
     number: u32,
     weight: u32,
-    key: [u32; 8],
+    key: [u32; FINGERPRINT],
     /// The position of the latest item of each type.
     latest: [usize; SERVER_OPENING as usize + 1],
 }
 
 impl Voter {
     fn new(number: u32) -> Voter {
-        Voter { number, weight: 0, key: ZEROS, latest: [0; SERVER_OPENING as usize + 1] }
+        Voter { number, weight: 0, key: NO_KEY, latest: [0; SERVER_OPENING as usize + 1] }
     }
 }
 
@@ -68,7 +67,7 @@ pub fn crowded(random: &mut Random, shape: Shape) -> Made {
 
 /// The same with these traits.
 pub fn crowded_with(random: &mut Random, shape: Shape, traits: Traits) -> Made {
-    let mut maker = Maker::new(random, sha256, shape, traits);
+    let mut maker = Maker::new(random, shape, traits);
     maker.genesis();
     add_config(&mut maker);
     let steps = steps(shape, maker.random);
@@ -99,7 +98,7 @@ pub enum Fate {
 /// A board of 2,048 items with as many ballots of this fate as there can be, all in one session.
 pub fn most_ballots(random: &mut Random, fate: Fate, traits: Traits) -> Made {
     let shape = Shape { items: MAX_ITEMS, words: None, long: 20, voters: 1, extraction: false };
-    let mut maker = Maker::new(random, sha256, shape, traits);
+    let mut maker = Maker::new(random, shape, traits);
     maker.genesis();
     add_config(&mut maker);
     let mut lanes = ballot_lanes(fate, maker.random);
@@ -122,7 +121,7 @@ pub fn most_ballots(random: &mut Random, fate: Fate, traits: Traits) -> Made {
 pub fn all_contests(random: &mut Random, voters: usize, traits: Traits) -> Made {
     let steps: Vec<Step> = (0..voters).flat_map(|who| WHOLE.map(|code| (who, code))).collect();
     let shape = Shape { items: 0, words: None, long: 0, voters, extraction: false };
-    let mut maker = Maker::new(random, sha256, shape, traits);
+    let mut maker = Maker::new(random, shape, traits);
     maker.genesis();
     maker.add_threshold();
     maker.add_authorizer();
@@ -311,7 +310,7 @@ fn add_round(maker: &mut Maker, first: u64, last: u64) {
     let start = *maker.random.pick(&[first, 0]);
     let end = *maker.random.pick(&[last + 1, u64::MAX]);
     let number = maker.new_round_number();
-    let content = round_content(maker.width, number, maker.contests, start, end);
+    let content = round_content(maker.layout.sets, number, maker.contests, start, end);
     maker.add(ROUND, maker.config, content, maker.now, maker.administrator);
 }
 
@@ -369,6 +368,6 @@ fn new_session(maker: &mut Maker, voter: &mut Voter, weights: Weights) -> Vec<u3
     let mut content = vec![voter.number, voter.weight];
     content.extend(voter.key);
     content.extend(maker.random.eight());
-    content.extend(maker.contests.words(maker.width));
+    content.extend(maker.contests.words(maker.layout.sets));
     content
 }

@@ -86,7 +86,8 @@ pub fn damage_plan(plan: &mut Plan, random: &mut Random) {
 fn damage_traits(genesis: &mut Vec<u32>, random: &mut Random) {
     genesis.truncate(PLAIN_GENESIS);
     let any = random.word();
-    genesis.extend(*random.pick(&[None, Some(0), Some(WIDE_SETS), Some(WIDE_SETS), Some(any)]));
+    let known = random.below(8) as u32;
+    genesis.extend(*random.pick(&[None, Some(known), Some(known), Some(known), Some(any)]));
 }
 
 /// A change to a roll: a pair gone, the first moved to the end, two voter numbers exchanged, another weight or
@@ -169,7 +170,7 @@ pub fn no_board(random: &mut Random) -> (Vec<u32>, Vec<u32>, Vec<u32>) {
         words[0] = *random.pick(&heads);
     }
     if words.len() > TRAITS_PLACE && random.chance(50) {
-        words[TRAITS_PLACE] = random.below(4) as u32;
+        words[TRAITS_PLACE] = random.below(9) as u32;
     }
     let count = random.below(40);
     let verdicts = random.words(count);

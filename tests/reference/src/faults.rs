@@ -1,8 +1,10 @@
 //! Faulty boards: a sound board changed in one place, all else kept right, so that the check
 //! in question is the first to fail. Each fault says which refusal it must give, and where. Those of the roll
 //! are in `rolls`, with rolls that are no fault: they give the number 0, and the board is sound still; those of
-//! traits and of the widths of contest sets are in `widths`.
+//! traits and of the widths of contest sets are in `widths`, those of curves and what is as wide as they have it in
+//! `curves`.
 
+use crate::curves::Widths;
 use crate::format::*;
 use crate::plan::{Address, Link, Plan, Previous, Spec, GOOD};
 use crate::random::Random;
@@ -10,6 +12,7 @@ use crate::roll::{pairs_of, roll_of};
 use crate::sha256::sha256;
 use crate::sound::{ballot_of, Made};
 
+mod curves;
 mod rolls;
 mod widths;
 pub use rolls::bad_roll;
@@ -17,12 +20,15 @@ pub use rolls::bad_roll;
 /// The changed board and how many items pass.
 type Change = Option<(Plan, usize)>;
 
+/// A refusal, a reason, and how a board is changed for it.
+type Way = (u32, &'static str, fn(&Made, u32, &mut Random) -> Change);
+
 /// A way to spoil a board. `code` is the type it is about, or 0; of bad rolls, which of several ways it is.
 pub struct Fault {
     pub number: u32,
     pub reason: String,
-    /// Where boards of one width alone have a place for it.
-    pub width: Option<Width>,
+    /// Of the boards that have a place for it.
+    pub layouts: Vec<Layout>,
     /// Whether it takes a ballot of all the contests that a board of its width can have.
     pub all_contests: bool,
     code: u32,
@@ -38,7 +44,7 @@ pub struct Faulty {
 impl Fault {
     /// The fault done to a board; none where the board has no place for it.
     pub fn apply(&self, made: &Made, random: &mut Random) -> Option<Faulty> {
-        if self.width.is_some_and(|width| width != made.width) {
+        if !self.layouts.contains(&made.layout) {
             return None;
         }
         let (plan, items) = (self.change)(made, self.code, random)?;
@@ -46,7 +52,25 @@ impl Fault {
     }
 }
 
-// ---- what stands before a position ----
+/// The layouts with sets of this width, and those of these curves.
+fn of_sets(width: Width) -> Vec<Layout> {
+    LAYOUTS.into_iter().filter(|layout| layout.sets == width).collect()
+}
+fn of_curves(curves: &[Curve]) -> Vec<Layout> {
+    LAYOUTS.into_iter().filter(|layout| curves.contains(&layout.curve)).collect()
+}
+
+// ---- what a board is like, and what stands before a position ----
+
+/// What a board's curve decides.
+fn widths(made: &Made) -> &'static Widths {
+    made.layout.curve.widths()
+}
+
+/// The words of an item beside its content.
+fn frame(made: &Made) -> usize {
+    made.layout.curve.frame()
+}
 
 fn items(made: &Made) -> &[Spec] {
     &made.plan.items
@@ -93,8 +117,8 @@ fn rounds(made: &Made, before: usize) -> Vec<(u32, Set, u64, u64)> {
     let mut standing: Vec<(u32, Set, u64, u64)> = Vec::new();
     for s in items(made)[..before].iter().filter(|s| s.code == ROUND) {
         standing.retain(|r| r.0 != s.content[0]);
-        let (start, end) = made.width.round_times(&s.content);
-        standing.push((s.content[0], made.width.set(ROUND, &s.content), start, end));
+        let (start, end) = made.layout.sets.round_times(&s.content);
+        standing.push((s.content[0], made.layout.sets.set(ROUND, &s.content), start, end));
     }
     standing
 }
@@ -112,7 +136,7 @@ fn contests(made: &Made, before: usize) -> Set {
 /// Those of the round, session or ballot at a position.
 fn set_of(made: &Made, at: usize) -> Set {
     let item = &items(made)[at];
-    made.width.set(item.code, &item.content)
+    made.layout.sets.set(item.code, &item.content)
 }
 
 /// Those that open rounds enable at the position and the time of an item.
@@ -122,19 +146,19 @@ fn enabled(made: &Made, at: usize) -> Set {
 
 /// Gives the round, session or ballot at a position another set.
 fn change_set(made: &Made, at: usize, set: Set) -> Change {
-    let place = made.width.set_place(items(made)[at].code);
-    change_item(made, at, |s| s.content[place].copy_from_slice(set.words(made.width)))
+    let place = made.layout.sets.set_place(items(made)[at].code);
+    change_item(made, at, |s| s.content[place].copy_from_slice(set.words(made.layout.sets)))
 }
 
-fn administrator(made: &Made) -> [u32; 8] {
+fn administrator(made: &Made) -> [u32; FINGERPRINT] {
     eight(&items(made)[0].content, 1)
 }
 
-fn ballot_box(made: &Made) -> [u32; 8] {
+fn ballot_box(made: &Made) -> [u32; FINGERPRINT] {
     eight(&items(made)[0].content, 9)
 }
 
-fn authorizer(made: &Made, before: usize) -> Option<[u32; 8]> {
+fn authorizer(made: &Made, before: usize) -> Option<[u32; FINGERPRINT]> {
     let latest = items(made)[..before].iter().rev().find(|s| s.code == AUTHORIZER)?;
     Some(eight(&latest.content, 1))
 }
@@ -150,7 +174,7 @@ fn config_position(made: &Made, from: usize, random: &mut Random) -> Option<usiz
 }
 
 /// A right item to put before a position; its content is the caller's affair.
-fn new_item(made: &Made, code: u32, before: usize, parent: Link, content: Vec<u32>, key: [u32; 8]) -> Spec {
+fn new_item(made: &Made, code: u32, before: usize, parent: Link, content: Vec<u32>, key: [u32; FINGERPRINT]) -> Spec {
     Spec {
         kind: kind_of(code).expect("a listed type"),
         code,
@@ -159,7 +183,8 @@ fn new_item(made: &Made, code: u32, before: usize, parent: Link, content: Vec<u3
         parent,
         previous: Previous::Right,
         time: last_main(made, before).map_or(0, |i| items(made)[i].time),
-        signature: [0x5151_5151; 16],
+        signature: [0x5151_5151; WIDEST_SIGNATURE],
+        signature_words: None,
         address: Address::Right,
         verdict: GOOD,
         key,
@@ -167,15 +192,15 @@ fn new_item(made: &Made, code: u32, before: usize, parent: Link, content: Vec<u3
 }
 
 fn new_round(made: &Made, before: usize, number: u32, set: Set, start: u64, end: u64) -> Spec {
-    let content = round_content(made.width, number, set, start, end);
+    let content = round_content(made.layout.sets, number, set, start, end);
     let parent = Link::Item(latest_config(made, before));
     new_item(made, ROUND, before, parent, content, administrator(made))
 }
 
-/// Content that fits a type by its count and its own ranges, on a board as wide as this one.
+/// Content that fits a type by its count and its own ranges, on a board laid out as this one.
 fn plain_content(made: &Made, code: u32, before: usize, random: &mut Random) -> Vec<u32> {
-    // What begins a board decides its width by itself, and that of a board that begins otherwise is narrow.
-    let width = if before == 0 { Width::Narrow } else { made.width };
+    // What begins a board decides its layout by itself, and that of a board that begins otherwise is the plain one.
+    let Layout { curve, sets: width } = if before == 0 { Layout::PLAIN } else { made.layout };
     let defined = match contests(made, before) {
         Set::EMPTY => Set::one(0),
         defined => defined,
@@ -184,7 +209,8 @@ fn plain_content(made: &Made, code: u32, before: usize, random: &mut Random) -> 
         TEXT => 5,
         CONTEST => 3,
         THRESHOLD => 10,
-        AUTHORIZER | VOTER_COMMITMENT | SERVER_COMMITMENT => 9,
+        AUTHORIZER => 9,
+        VOTER_COMMITMENT | SERVER_COMMITMENT => curve.widths().commitment - 1,
         SESSION => SESSION_SET,
         EXTRACTION | VERIFIER => 8,
         CONFIRMATION => 1 + TRUSTEE,
@@ -201,11 +227,11 @@ fn plain_content(made: &Made, code: u32, before: usize, random: &mut Random) -> 
             content[1] |= 1;
             content.extend(random.contests(defined).words(width));
         }
-        VOTER_COMMITMENT | SERVER_COMMITMENT => content[8] &= 0xff00_0000,
+        VOTER_COMMITMENT | SERVER_COMMITMENT => content.push(random.word_with_zeros(curve.widths().commitment_zeros)),
         BALLOT => {
             content = Set::one(random.contest(defined)).words(width).to_vec();
-            content.extend(random.words(CRYPTOGRAM - 1));
-            content.push(random.word() & 0xffff_0000);
+            content.extend(random.words(curve.widths().cryptogram - 1));
+            content.push(random.word_with_zeros(CRYPTOGRAM_ZEROS));
         }
         CONFIRMATION => content[0] = 1,
         _ => {}
@@ -268,7 +294,7 @@ fn closing_first(made: &Made, _: u32, random: &mut Random) -> Change {
 
 fn cut(made: &Made, _: u32, random: &mut Random) -> Change {
     let at = any(made, random);
-    let length = items(made)[at].content.len() + FRAME;
+    let length = items(made)[at].content.len() + frame(made);
     let mut plan = made.plan.clone();
     plan.cut = Some((at, random.between(1, length - 1)));
     Some((plan, at))
@@ -284,7 +310,7 @@ fn cut_after_head(made: &Made, _: u32, random: &mut Random) -> Change {
 fn one_short(made: &Made, _: u32, random: &mut Random) -> Change {
     let at = any(made, random);
     let mut plan = made.plan.clone();
-    plan.cut = Some((at, items(made)[at].content.len() + FRAME - 1));
+    plan.cut = Some((at, items(made)[at].content.len() + frame(made) - 1));
     Some((plan, at))
 }
 
@@ -343,22 +369,23 @@ fn strange_head_last(made: &Made, _: u32, random: &mut Random) -> Change {
 
 // ---- 6: misfit ----
 
-/// A count that a type does not have on a board of a width. Often it is one that the type has at the other width.
-fn misfit_count(width: Width, code: u32, random: &mut Random) -> usize {
-    let other = if width == Width::Wide { Width::Narrow } else { Width::Wide };
+/// A count that a type does not have on a board of a layout. Often it is one that the type has in another.
+fn misfit_count(layout: Layout, code: u32, random: &mut Random) -> usize {
     loop {
+        let other = *random.pick(&LAYOUTS);
         let n = match random.below(5) {
             0 => random.between(0, 70),
             1 => random.between(0, 600),
             2 => *random.pick(&[0, 7, 9, 10, 11, 16, 19, 65, 66, 257, 1 + 17 * 33, 1 + 16 * 33, 8 + 17 * 257, 65535]),
             3 => match code {
-                ROUND => 5 + other.words(),
-                SESSION => SESSION_SET + other.words(),
-                _ => other.words() + CRYPTOGRAM * random.between(0, 33),
+                ROUND => 5 + other.sets.words(),
+                SESSION => SESSION_SET + other.sets.words(),
+                VOTER_COMMITMENT | SERVER_COMMITMENT => other.curve.widths().commitment,
+                _ => other.sets.words() + other.curve.widths().cryptogram * random.between(0, 33),
             },
             _ => random.below(65536),
         };
-        if !width.count_fits(code, n) {
+        if !layout.count_fits(code, n) {
             return n;
         }
     }
@@ -367,14 +394,14 @@ fn misfit_count(width: Width, code: u32, random: &mut Random) -> usize {
 /// Only the head's count is wrong.
 fn misfit_head(made: &Made, code: u32, random: &mut Random) -> Change {
     let at = pick(made, code, random)?;
-    let n = misfit_count(made.width, code, random);
+    let n = misfit_count(made.layout, code, random);
     change_item(made, at, |s| s.count = Some(n))
 }
 
 /// The content has the wrong count too, and the address is right for it.
 fn misfit_content(made: &Made, code: u32, random: &mut Random) -> Change {
     let at = pick(made, code, random)?;
-    let n = misfit_count(made.width, code, random);
+    let n = misfit_count(made.layout, code, random);
     let content = random.words(n);
     change_item(made, at, |s| s.content = content)
 }
@@ -382,7 +409,7 @@ fn misfit_content(made: &Made, code: u32, random: &mut Random) -> Change {
 fn misfit_head_last(made: &Made, code: u32, random: &mut Random) -> Change {
     let at = pick(made, code, random)?;
     let mut plan = made.plan.clone();
-    plan.items[at].count = Some(misfit_count(made.width, code, random));
+    plan.items[at].count = Some(misfit_count(made.layout, code, random));
     plan.cut = Some((at, 1));
     Some((plan, at))
 }
@@ -391,7 +418,7 @@ fn misfit_head_last(made: &Made, code: u32, random: &mut Random) -> Change {
 
 fn address_flipped(made: &Made, code: u32, random: &mut Random) -> Change {
     let at = pick(made, code, random)?;
-    let bit = random.below(256);
+    let bit = random.below(32 * widths(made).address);
     change_item(made, at, |s| s.address = Address::Flipped(bit))
 }
 
@@ -422,7 +449,7 @@ fn address_zeros(made: &Made, _: u32, random: &mut Random) -> Change {
 
 /// A hashed word is changed after hashing.
 fn changed_after_hashing(made: &Made, at: usize, edit: impl FnOnce(&mut Spec)) -> Change {
-    let address = made.plan.lay(sha256).addresses[at];
+    let address = made.plan.lay().addresses[at];
     change_item(made, at, |s| {
         edit(s);
         s.address = Address::Words(address);
@@ -437,12 +464,12 @@ fn content_changed(made: &Made, _: u32, random: &mut Random) -> Change {
 }
 
 fn parent_changed(made: &Made, _: u32, random: &mut Random) -> Change {
-    let (at, words) = (any(made, random), random.eight());
+    let (at, words) = (any(made, random), random.digest());
     changed_after_hashing(made, at, |s| s.parent = Link::Words(words))
 }
 
 fn previous_changed(made: &Made, _: u32, random: &mut Random) -> Change {
-    let (at, words) = (any(made, random), random.eight());
+    let (at, words) = (any(made, random), random.digest());
     changed_after_hashing(made, at, |s| s.previous = Previous::Words(words))
 }
 
@@ -461,16 +488,23 @@ fn decision_changed(made: &Made, _: u32, random: &mut Random) -> Change {
 
 fn previous_random(made: &Made, code: u32, random: &mut Random) -> Change {
     let at = pick(made, code, random)?;
-    let words = random.eight();
+    let words = random.digest();
     change_item(made, at, |s| s.previous = Previous::Words(words))
+}
+
+/// The right parent and previous of an item, as words.
+fn links(made: &Made, at: usize) -> [Digest; 2] {
+    let laid = made.plan.lay();
+    let parent = laid.places[at] + 1 + items(made)[at].content.len();
+    [parent, parent + widths(made).address].map(|place| made.layout.curve.address(&laid.words, place))
 }
 
 /// One bit of a right previous is turned over.
 fn previous_flipped(made: &Made, _: u32, random: &mut Random) -> Change {
     let at = any(made, random);
-    let laid = made.plan.lay(sha256);
-    let mut words = eight(&laid.words, laid.places[at] + 1 + items(made)[at].content.len() + 8);
-    words[random.below(8)] ^= 1 << random.below(32);
+    let (word, bit) = (random.below(widths(made).address), random.below(32));
+    let mut words = links(made, at)[1];
+    words[word] ^= 1 << bit;
     change_item(made, at, |s| s.previous = Previous::Words(words))
 }
 
@@ -519,7 +553,7 @@ fn hidden_previous_item_before(made: &Made, _: u32, random: &mut Random) -> Chan
 /// A hidden item whose parent is unknown and whose previous differs from it.
 fn hidden_unknown_parent_and_previous(made: &Made, _: u32, random: &mut Random) -> Change {
     let at = pick_where(made, random, |_, s| s.kind == HIDDEN)?;
-    let (parent, previous) = (random.eight(), random.eight());
+    let (parent, previous) = (random.digest(), random.digest());
     change_item(made, at, |s| {
         s.parent = Link::Words(parent);
         s.previous = Previous::Words(previous);
@@ -530,8 +564,8 @@ fn hidden_unknown_parent_and_previous(made: &Made, _: u32, random: &mut Random) 
 fn hidden_first_previous(made: &Made, _: u32, random: &mut Random) -> Change {
     let code = *random.pick(&[TRACK, VERIFIER, VOTER_OPENING, SERVER_OPENING]);
     let content = plain_content(made, code, 0, random);
-    let mut spec = new_item(made, code, 0, Link::Words(random.eight()), content, ballot_box(made));
-    spec.previous = Previous::Words(*random.pick(&[ZEROS, [1; 8]]));
+    let mut spec = new_item(made, code, 0, Link::Words(random.digest()), content, ballot_box(made));
+    spec.previous = Previous::Words(*random.pick(&[ZEROS, [1; WIDEST]]));
     insert(made, 0, spec)
 }
 
@@ -539,15 +573,15 @@ fn hidden_first_previous(made: &Made, _: u32, random: &mut Random) -> Change {
 
 fn parent_unknown(made: &Made, code: u32, random: &mut Random) -> Change {
     let at = pick(made, code, random)?;
-    let words = random.eight();
+    let words = random.digest();
     change_item(made, at, |s| s.parent = Link::Words(words))
 }
 
 fn parent_flipped(made: &Made, code: u32, random: &mut Random) -> Change {
     let at = pick(made, code, random)?;
-    let laid = made.plan.lay(sha256);
-    let mut words = eight(&laid.words, laid.places[at] + 1 + items(made)[at].content.len());
-    words[random.below(8)] ^= 1 << random.below(32);
+    let (word, bit) = (random.below(widths(made).address), random.below(32));
+    let mut words = links(made, at)[0];
+    words[word] ^= 1 << bit;
     change_item(made, at, |s| s.parent = Link::Words(words))
 }
 
@@ -603,7 +637,7 @@ fn genesis_parent(made: &Made, _: u32, random: &mut Random) -> Change {
 /// A board that begins with another type. Its parent is anything.
 fn first_is(made: &Made, code: u32, random: &mut Random) -> Change {
     let content = plain_content(made, code, 0, random);
-    let parent = if random.chance(50) { Link::Zeros } else { Link::Words(random.eight()) };
+    let parent = if random.chance(50) { Link::Zeros } else { Link::Words(random.digest()) };
     insert(made, 0, new_item(made, code, 0, parent, content, administrator(made)))
 }
 
@@ -613,7 +647,7 @@ fn before_its_parent(made: &Made, _: u32, random: &mut Random) -> Change {
         s.kind == HIDDEN && s.code != TRACK && items(made)[made.expected.rows[i].parent as usize - 1].kind == HIDDEN
     })?;
     let parent = made.expected.rows[at].parent as usize - 1;
-    let address = made.plan.lay(sha256).addresses[parent];
+    let address = made.plan.lay().addresses[parent];
     let mut spec = items(made)[at].clone();
     spec.parent = Link::Words(address);
     insert(made, parent, spec)
@@ -914,7 +948,8 @@ fn second_genesis(made: &Made, _: u32, random: &mut Random) -> Change {
     if random.chance(50) {
         // Its traits are not read.
         content = random.words(PLAIN_GENESIS);
-        content.extend(*random.pick(&[None, Some(0), Some(WIDE_SETS), Some(2), Some(u32::MAX)]));
+        let known = random.below(6) as u32;
+        content.extend(*random.pick(&[None, Some(known), Some(known), Some(6), Some(u32::MAX)]));
     }
     insert(made, at, new_item(made, GENESIS, at, Link::Zeros, content, administrator(made)))
 }
@@ -1010,7 +1045,7 @@ fn cast_after_opening(made: &Made, _: u32, random: &mut Random) -> Change {
 // ---- 13: bad content ----
 
 fn contest_number(made: &Made, _: u32, random: &mut Random) -> Change {
-    let numbers = made.width.contests();
+    let numbers = made.layout.sets.contests();
     change_content(made, CONTEST, random, |c, r| {
         c[0] = *r.pick(&[numbers, numbers + 1, numbers + 31, 2 * numbers, 1 << 31, u32::MAX]);
     })
@@ -1054,7 +1089,7 @@ fn round_empty(made: &Made, _: u32, random: &mut Random) -> Change {
 /// A contest that is not defined yet, alone or beside the others.
 fn undefined_contest(made: &Made, code: u32, random: &mut Random) -> Change {
     let at = pick(made, code, random)?;
-    let undefined = Set::all(made.width).minus(contests(made, at));
+    let undefined = Set::all(made.layout.sets).minus(contests(made, at));
     if undefined.is_empty() {
         return None;
     }
@@ -1069,9 +1104,9 @@ fn round_undefined(made: &Made, _: u32, random: &mut Random) -> Change {
 fn round_times(made: &Made, random: &mut Random, edit: fn(u64, u64) -> (u64, u64)) -> Change {
     let at = pick(made, ROUND, random)?;
     let round = &items(made)[at].content;
-    let (start, end) = made.width.round_times(round);
+    let (start, end) = made.layout.sets.round_times(round);
     let (start, end) = edit(start, end);
-    let content = round_content(made.width, round[0], set_of(made, at), start, end);
+    let content = round_content(made.layout.sets, round[0], set_of(made, at), start, end);
     change_item(made, at, |s| s.content = content)
 }
 fn round_start_is_end(made: &Made, _: u32, random: &mut Random) -> Change {
@@ -1096,13 +1131,18 @@ fn session_undefined(made: &Made, _: u32, random: &mut Random) -> Change {
     undefined_contest(made, SESSION, random)
 }
 
+/// Some of the low bits of a commitment's last word.
 fn commitment_bits(made: &Made, code: u32, random: &mut Random) -> Change {
-    change_content(made, code, random, |c, r| c[8] |= *r.pick(&[1, 1 << 23, 1 << 12, 0x00ff_ffff]))
+    let low = (1 << widths(made).commitment_zeros) - 1;
+    change_content(made, code, random, |c, r| {
+        let bit = r.bit(low);
+        *c.last_mut().expect("a last word") |= *r.pick(&[1, bit, low]);
+    })
 }
 
 /// How many cryptograms a ballot has.
 fn cryptograms(made: &Made, at: usize) -> usize {
-    (items(made)[at].content.len() - made.width.words()) / CRYPTOGRAM
+    made.layout.cryptograms(&items(made)[at].content).len()
 }
 
 fn cryptogram_bits(made: &Made, _: u32, random: &mut Random) -> Change {
@@ -1115,17 +1155,17 @@ fn cryptogram_bits(made: &Made, _: u32, random: &mut Random) -> Change {
 /// A low bit of a ballot's cryptogram with this number, from 1.
 fn low_bits(made: &Made, at: usize, which: usize, random: &mut Random) -> Change {
     let bits = *random.pick(&[1, 1 << 15, 1 << 8]);
-    change_item(made, at, |s| s.content[made.width.words() + which * CRYPTOGRAM - 1] |= bits)
+    change_item(made, at, |s| s.content[made.layout.sets.words() + which * widths(made).cryptogram - 1] |= bits)
 }
 /// A cryptogram too many for the set.
 fn ballot_too_long(made: &Made, _: u32, random: &mut Random) -> Change {
-    let most = made.width.contests() as usize;
+    let most = made.layout.sets.contests() as usize;
     let at = pick_where(made, random, |i, s| s.code == BALLOT && cryptograms(made, i) < most)?;
-    change_item(made, at, |s| s.content.extend([0; CRYPTOGRAM]))
+    change_item(made, at, |s| s.content.resize(s.content.len() + widths(made).cryptogram, 0))
 }
 fn ballot_too_short(made: &Made, _: u32, random: &mut Random) -> Change {
     let at = pick_where(made, random, |i, s| s.code == BALLOT && cryptograms(made, i) > 1)?;
-    change_item(made, at, |s| s.content.truncate(s.content.len() - CRYPTOGRAM))
+    change_item(made, at, |s| s.content.truncate(s.content.len() - widths(made).cryptogram))
 }
 fn ballot_empty(made: &Made, _: u32, random: &mut Random) -> Change {
     let at = pick(made, BALLOT, random)?;
@@ -1153,7 +1193,7 @@ fn ballot_not_enabled(made: &Made, _: u32, random: &mut Random) -> Change {
     ballot_swap(made, random, |i| only_in_session(made, i))
 }
 fn ballot_undefined(made: &Made, _: u32, random: &mut Random) -> Change {
-    ballot_swap(made, random, |i| Set::all(made.width).minus(contests(made, i)))
+    ballot_swap(made, random, |i| Set::all(made.layout.sets).minus(contests(made, i)))
 }
 /// The rounds that enabled a contest are replaced by such without it.
 fn ballot_only_replaced(made: &Made, _: u32, random: &mut Random) -> Change {
@@ -1266,7 +1306,7 @@ fn fingerprint_cryptograms(made: &Made, _: u32, random: &mut Random) -> Change {
     if ballots.is_empty() {
         return None;
     }
-    let set = made.width.words();
+    let set = made.layout.sets.words();
     let message: Vec<u32> = ballots.iter().flat_map(|&b| items(made)[b].content[set..].to_vec()).collect();
     change_item(made, at, |s| s.content = sha256(&message).to_vec())
 }
@@ -1354,7 +1394,7 @@ fn verdict_none(made: &Made, _: u32, _: &mut Random) -> Change {
 // ---- 15: wrong key ----
 
 /// Another key than the writer's; the verdict may be bad as well.
-fn key_is(made: &Made, at: usize, key: [u32; 8], random: &mut Random) -> Change {
+fn key_is(made: &Made, at: usize, key: [u32; FINGERPRINT], random: &mut Random) -> Change {
     if key == items(made)[at].key {
         return None;
     }
@@ -1368,7 +1408,7 @@ fn key_random(made: &Made, code: u32, random: &mut Random) -> Change {
 }
 fn key_zeros(made: &Made, code: u32, random: &mut Random) -> Change {
     let at = pick(made, code, random)?;
-    key_is(made, at, ZEROS, random)
+    key_is(made, at, NO_KEY, random)
 }
 fn key_flipped(made: &Made, code: u32, random: &mut Random) -> Change {
     let at = pick(made, code, random)?;
@@ -1479,6 +1519,7 @@ fn close_early(made: &Made, _: u32, random: &mut Random) -> Change {
 pub fn faults() -> Vec<Fault> {
     let mut list = plain_faults();
     list.extend(widths::width_faults());
+    list.extend(curves::curve_faults());
     list.extend(rolls::roll_faults());
     list
 }
@@ -1488,7 +1529,7 @@ fn plain_faults() -> Vec<Fault> {
     let mut list = Vec::new();
     let mut one = |number: u32, reason: &str, change: fn(&Made, u32, &mut Random) -> Change| {
         let reason = format!("{number}/{reason}");
-        list.push(Fault { number, reason, width: None, all_contests: false, code: 0, change });
+        list.push(Fault { number, reason, layouts: LAYOUTS.to_vec(), all_contests: false, code: 0, change });
     };
     one(3, "no words", no_words);
     one(3, "closing word first", closing_first);
@@ -1602,7 +1643,7 @@ fn plain_faults() -> Vec<Fault> {
     let mut each = |number: u32, reason: &str, codes: &[u32], change: fn(&Made, u32, &mut Random) -> Change| {
         for &code in codes {
             let reason = format!("{number}/{reason}/type {code}");
-            list.push(Fault { number, reason, width: None, all_contests: false, code, change });
+            list.push(Fault { number, reason, layouts: LAYOUTS.to_vec(), all_contests: false, code, change });
         }
     };
     let linked = &CODES[1..];
@@ -1662,7 +1703,7 @@ pub fn spoil_more(faulty: &mut Faulty, random: &mut Random) -> Option<u32> {
         return None;
     }
     let plan = &mut faulty.plan;
-    let width = plan.width();
+    let layout = plan.layout();
     let voter = plan.items[at].content.first().copied();
     let is_voters = |s: &Spec| s.code == SESSION && s.content.first().copied() == voter;
     let first_session = is_voters(&plan.items[at]) && !plan.items[..at].iter().any(is_voters);
@@ -1671,14 +1712,16 @@ pub fn spoil_more(faulty: &mut Faulty, random: &mut Random) -> Option<u32> {
     let number = *random.pick(&[4, 5, 6, 7, 8, 9, 10, 14, 15, 16, 20, 21]);
     match number {
         4 => {
-            let length = item.count.unwrap_or(item.content.len()).min(item.content.len()) + FRAME;
+            let length = item.count.unwrap_or(item.content.len()).min(item.content.len()) + layout.curve.frame();
             plan.cut = Some((at, random.between(1, length - 1)));
         }
         5 => item.code = unlisted(random),
-        6 => item.count = Some(misfit_count(width, item.code, random)),
-        7 if item.address == Address::Right => item.address = Address::Flipped(random.below(256)),
-        8 => item.previous = Previous::Words(random.eight()),
-        9 if item.kind == MAIN || item.previous == Previous::Right => item.parent = Link::Words(random.eight()),
+        6 => item.count = Some(misfit_count(layout, item.code, random)),
+        7 if item.address == Address::Right => {
+            item.address = Address::Flipped(random.below(32 * layout.curve.widths().address));
+        }
+        8 => item.previous = Previous::Words(random.digest()),
+        9 if item.kind == MAIN || item.previous == Previous::Right => item.parent = Link::Words(random.digest()),
         10 if item.kind == MAIN && before > 0 => item.time = before - 1,
         14 => item.verdict = 0x4000_0001,
         15 => item.key = random.eight(),

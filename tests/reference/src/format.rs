@@ -1,5 +1,6 @@
-//! The words of a board: heads, the layout of an item, the table of types, the widths of sets, the limits.
+//! The words of a board: heads, the table of types, the layout that a board's traits choose, the limits.
 
+pub use crate::curves::{Curve, Digest, CRYPTOGRAM_ZEROS, CURVES, WIDEST, WIDEST_SIGNATURE, ZEROS};
 pub use crate::sets::Set;
 
 pub const MAX_WORDS: usize = 262_144;
@@ -56,11 +57,10 @@ pub const HIDDEN: u32 = 2;
 pub const VERDICT: u32 = 3;
 pub const CLOSING: u32 = 15;
 
-/// The words of an item beside its content, and the hashed ones among them.
-pub const FRAME: usize = 43;
-pub const HASHED_FRAME: usize = 19;
-pub const VERDICT_WORDS: usize = 9;
-pub const ZEROS: [u32; 8] = [0; 8];
+/// The words of a key fingerprint, and of the fingerprint of ballots: SHA-256 on every curve.
+pub const FINGERPRINT: usize = 8;
+pub const VERDICT_WORDS: usize = 1 + FINGERPRINT;
+pub const NO_KEY: [u32; FINGERPRINT] = [0; FINGERPRINT];
 
 pub const GENESIS: u32 = 1;
 pub const TEXT: u32 = 2;
@@ -85,8 +85,7 @@ pub const SERVER_OPENING: u32 = 51;
 /// Every type code, in the table's order.
 pub const CODES: [u32; 19] = [1, 2, 3, 4, 5, 6, 16, 17, 18, 19, 20, 21, 32, 33, 34, 48, 49, 50, 51];
 
-/// The words of one cryptogram in a ballot, and of one trustee in a confirmation.
-pub const CRYPTOGRAM: usize = 17;
+/// The words of one trustee in a confirmation.
 pub const TRUSTEE: usize = 16;
 
 pub fn kind(head: u32) -> u32 {
@@ -111,20 +110,17 @@ pub fn kind_of(code: u32) -> Option<u32> {
     }
 }
 
-/// Whether the table has this content count for the type, on a board of narrow sets.
-pub fn count_fits(code: u32, n: usize) -> bool {
-    Width::Narrow.count_fits(code, n)
-}
-
-// ---- the width of a board's sets ----
+// ---- the layout of a board ----
 
 /// The head of a first item that carries a traits word, and the place of that word on the board.
 pub const TRAITS_HEAD: u32 = 0x1001_0012;
 pub const TRAITS_PLACE: usize = 18;
 /// The content words of a genesis without it, which are then its place in the content.
 pub const PLAIN_GENESIS: usize = 17;
-/// The one trait that is known: contest sets of eight words.
+/// The traits that are known. Bit 0: contest sets of eight words. Bits 1 and 2 are the number of the curve.
 pub const WIDE_SETS: u32 = 1;
+pub const CURVE_SHIFT: u32 = 1;
+pub const CURVE_BITS: u32 = 3 << CURVE_SHIFT;
 
 /// Where the contest set stands in a round's and in a session's content; in a ballot's it is first.
 pub const ROUND_SET: usize = 1;
@@ -146,14 +142,6 @@ pub fn traits(board: &[u32]) -> Option<u32> {
 }
 
 impl Width {
-    /// As the board's own words have it. A board whose traits are not known is narrow until it is refused.
-    pub fn of(board: &[u32]) -> Width {
-        match traits(board) {
-            Some(WIDE_SETS) => Width::Wide,
-            _ => Width::Narrow,
-        }
-    }
-
     /// The words of a contest set.
     pub const fn words(self) -> usize {
         match self {
@@ -165,27 +153,6 @@ impl Width {
     /// How many contest numbers there are, from 0 on; so many cryptograms can be in a ballot.
     pub const fn contests(self) -> u32 {
         32 * self.words() as u32
-    }
-
-    /// Whether the table has this content count for the type.
-    pub fn count_fits(self, code: u32, n: usize) -> bool {
-        let set = self.words();
-        match code {
-            GENESIS => n == PLAIN_GENESIS || n == PLAIN_GENESIS + 1,
-            TEXT => n <= 64,
-            CONTEST => (1..=65).contains(&n),
-            THRESHOLD => n == 10,
-            AUTHORIZER => n == 9,
-            ROUND => n == 5 + set,
-            SESSION => n == 18 + set,
-            VOTER_COMMITMENT | SERVER_COMMITMENT => n == 9,
-            BALLOT => (1..=self.contests() as usize).any(|k| n == set + CRYPTOGRAM * k),
-            CAST | SPOIL | INTENT | TRACK => n == 0,
-            EXTRACTION | VERIFIER => n == 8,
-            CONFIRMATION => (1..=32).any(|k| n == 1 + TRUSTEE * k),
-            VOTER_OPENING | SERVER_OPENING => (1..=256).contains(&n),
-            _ => false,
-        }
     }
 
     /// Where the contest set stands in the content of a round, a session or a ballot.
@@ -208,6 +175,72 @@ impl Width {
     pub fn round_times(self, content: &[u32]) -> (u64, u64) {
         let start = self.set_place(ROUND).end;
         (time(content, start), time(content, start + 2))
+    }
+}
+
+/// How a board's words are laid out: by its curve, and by the width of its contest sets.
+#[derive(Clone, Copy, PartialEq, Eq, PartialOrd, Ord, Debug)]
+pub struct Layout {
+    pub curve: Curve,
+    pub sets: Width,
+}
+
+/// All of them, in the order of their traits words: 0 to 5.
+pub const LAYOUTS: [Layout; 6] = [
+    Layout { curve: Curve::Secp256r1, sets: Width::Narrow },
+    Layout { curve: Curve::Secp256r1, sets: Width::Wide },
+    Layout { curve: Curve::Secp384r1, sets: Width::Narrow },
+    Layout { curve: Curve::Secp384r1, sets: Width::Wide },
+    Layout { curve: Curve::Secp521r1, sets: Width::Narrow },
+    Layout { curve: Curve::Secp521r1, sets: Width::Wide },
+];
+
+impl Layout {
+    /// That of a board without a traits word.
+    pub const PLAIN: Layout = Layout { curve: Curve::Secp256r1, sets: Width::Narrow };
+
+    /// As the board's own words have it. A board whose traits are not known has the plain one until it is refused.
+    pub fn of(board: &[u32]) -> Layout {
+        traits(board).and_then(Layout::known).unwrap_or(Layout::PLAIN)
+    }
+
+    /// The one that a traits word chooses, where all its traits are known.
+    pub fn known(traits: u32) -> Option<Layout> {
+        let others = traits & !(WIDE_SETS | CURVE_BITS);
+        let curve = Curve::numbered((traits & CURVE_BITS) >> CURVE_SHIFT)?;
+        let sets = if traits & WIDE_SETS == 0 { Width::Narrow } else { Width::Wide };
+        (others == 0).then_some(Layout { curve, sets })
+    }
+
+    /// The traits word that chooses it.
+    pub const fn traits(self) -> u32 {
+        (self.curve as u32) << CURVE_SHIFT | self.sets as u32 * WIDE_SETS
+    }
+
+    /// Whether the table has this content count for the type.
+    pub fn count_fits(self, code: u32, n: usize) -> bool {
+        let (set, widths) = (self.sets.words(), self.curve.widths());
+        match code {
+            GENESIS => n == PLAIN_GENESIS || n == PLAIN_GENESIS + 1,
+            TEXT => n <= 64,
+            CONTEST => (1..=65).contains(&n),
+            THRESHOLD => n == 10,
+            AUTHORIZER => n == 9,
+            ROUND => n == 5 + set,
+            SESSION => n == 18 + set,
+            VOTER_COMMITMENT | SERVER_COMMITMENT => n == widths.commitment,
+            BALLOT => (1..=self.sets.contests() as usize).any(|k| n == set + widths.cryptogram * k),
+            CAST | SPOIL | INTENT | TRACK => n == 0,
+            EXTRACTION | VERIFIER => n == FINGERPRINT,
+            CONFIRMATION => (1..=32).any(|k| n == 1 + TRUSTEE * k),
+            VOTER_OPENING | SERVER_OPENING => (1..=256).contains(&n),
+            _ => false,
+        }
+    }
+
+    /// The cryptograms in a ballot's content, which stand behind its set.
+    pub fn cryptograms(self, ballot: &[u32]) -> std::slice::ChunksExact<'_, u32> {
+        ballot[self.sets.words()..].chunks_exact(self.curve.widths().cryptogram)
     }
 }
 
@@ -275,9 +308,9 @@ pub fn is_voting(code: u32) -> bool {
     (SESSION..=SPOIL).contains(&code)
 }
 
-/// Eight words of a slice: a hash or a key fingerprint.
-pub fn eight(words: &[u32], at: usize) -> [u32; 8] {
-    words[at..at + 8].try_into().expect("eight words")
+/// The key fingerprint at a place.
+pub fn eight(words: &[u32], at: usize) -> [u32; FINGERPRINT] {
+    words[at..at + FINGERPRINT].try_into().expect("eight words")
 }
 
 /// A time of two words, high first.

@@ -9,6 +9,7 @@ const NAMES: &[(&str, usize)] = &[
     ("TIRFOLMA_BOARD_WORDS", MAX_WORDS),
     ("TIRFOLMA_BOARD_ITEMS", MAX_ITEMS),
     ("TIRFOLMA_AUDIT_WORDS", AUDIT_ANSWER),
+    ("TIRFOLMA_END_WORDS", END_WORDS),
     ("TIRFOLMA_INDEX_ROW_WORDS", INDEX_ROW),
     ("TIRFOLMA_INDEX_WORDS", INDEX_NEED),
     ("TIRFOLMA_BALLOT_ROW_WORDS", BALLOT_ROW),
@@ -190,7 +191,7 @@ fn mistakes(text: &str) -> Result<Vec<Mistake>, String> {
 }
 
 /// What is wrong, the text that goes, the text in its place, and what the check must say.
-const MISTAKES: [[&str; 4]; 18] = [
+const MISTAKES: [[&str; 4]; 19] = [
     ["a length is missing", "#define TIRFOLMA_LIST_WORDS 2048\n", "", "the header does not define TIRFOLMA_LIST_WORDS"],
     [
         "a length is a comment",
@@ -238,9 +239,15 @@ const MISTAKES: [[&str; 4]; 18] = [
     ["a kind has no number", "TIRFOLMA_SAME = 2", "TIRFOLMA_SAME", "the header has '' for TIRFOLMA_SAME, not 2"],
     [
         "a number is octal",
-        "#define TIRFOLMA_AUDIT_WORDS 14",
-        "#define TIRFOLMA_AUDIT_WORDS 014",
-        "the header has '014' for TIRFOLMA_AUDIT_WORDS, not 14",
+        "#define TIRFOLMA_AUDIT_WORDS 22",
+        "#define TIRFOLMA_AUDIT_WORDS 022",
+        "the header has '022' for TIRFOLMA_AUDIT_WORDS, not 22",
+    ],
+    [
+        "an end address has no words of its own",
+        "#define TIRFOLMA_END_WORDS 16\n",
+        "",
+        "the header does not define TIRFOLMA_END_WORDS",
     ],
     [
         "a product has a wrong number",

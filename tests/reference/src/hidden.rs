@@ -9,7 +9,6 @@ use crate::format::*;
 use crate::interface::*;
 use crate::plan::{Link, Plan, Previous};
 use crate::random::Random;
-use crate::sha256::sha256;
 use crate::sound::{any_shape, make_with, Traits};
 
 /// Some hidden items go, with all that hangs on them.
@@ -52,11 +51,11 @@ pub fn check_hidden_tracks(seed: u64) -> Result<bool, String> {
     let random = &mut Random::new(seed);
     let shape = any_shape(random, 150);
     let traits = Traits::any(random);
-    let made = make_with(random, sha256, shape, traits);
+    let made = make_with(random, shape, traits);
     let mut plan = made.plan.clone();
     remove_hidden(&mut plan, random);
     let run = |plan: &Plan| {
-        let laid = plan.lay(sha256);
+        let laid = plan.lay();
         let (mut index, mut ballots) = (vec![0; INDEX_NEED], vec![0; BALLOTS_NEED]);
         let report = audit(&laid.words, &laid.verdicts, &laid.roll, &mut index, &mut ballots);
         let items = if report.number == 0 { report.items as usize } else { 0 };
@@ -86,7 +85,7 @@ pub fn bared(makers: &Makers, seed: u64) -> Option<Bared> {
         return None;
     }
     let (plan, mains) = without_hidden(&faulty);
-    let laid = plan.lay(sha256);
+    let laid = plan.lay();
     let bare = Case {
         name: format!("{} without hidden items", board.name),
         words: laid.words,

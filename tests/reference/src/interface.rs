@@ -7,7 +7,9 @@ use crate::ancestry::Ancestry;
 use crate::audit::Report;
 use crate::compare::{Comparison, Side};
 
-pub const AUDIT_ANSWER: usize = 14;
+/// The words of an end address: those of the board, then zeros.
+pub const END_WORDS: usize = 16;
+pub const AUDIT_ANSWER: usize = 22;
 pub const COMPARE_ANSWER: usize = 6;
 pub const ANCESTRY_ANSWER: usize = 2;
 
@@ -19,7 +21,7 @@ pub mod audit_answer {
     pub const BALLOTS: usize = 3;
     pub const WEIGHT_HIGH: usize = 4;
     pub const WEIGHT_LOW: usize = 5;
-    /// Eight words, the last of the answer.
+    /// Sixteen words, the last of the answer.
     pub const END: usize = 6;
 }
 
@@ -79,7 +81,7 @@ pub fn audit_words(report: &Report) -> [u32; AUDIT_ANSWER] {
     words[BALLOTS] = report.ballots;
     words[WEIGHT_HIGH] = (report.weight >> 32) as u32;
     words[WEIGHT_LOW] = report.weight as u32;
-    words[END..].copy_from_slice(&report.end);
+    words[END..END + END_WORDS].copy_from_slice(&report.end);
     words
 }
 

@@ -2,10 +2,10 @@
 //! is needed to hold the auditor against it: boards made from a seed, sound and faulty, and
 //! a comparison word by word over the C interface.
 //!
-//! The rules: `sha256`, `format`, `sets`, `audit`, `compare`, `ancestry`, `program`.
+//! The rules: `sha256`, `sha512`, `curves`, `format`, `sets`, `audit`, `compare`, `ancestry`, `program`.
 //! The boards: `random`, `plan`, `roll`, `sound`, `crowded`, `faults`, `damage`, `collisions`.
-//! The checks: `interface`, `header`, `stand_in`, `told`, `closed`, `opened`, `enrolled`, `contests`, `reached`, `hidden`,
-//! `calls`, `checks`, `stored`.
+//! The checks: `interface`, `header`, `stand_in`, `told`, `closed`, `opened`, `enrolled`, `contests`, `zeros`, `reached`, `hidden`,
+//! `calls`, `checks`, `stored`, `comparisons`.
 
 pub mod ancestry;
 pub mod audit;
@@ -14,8 +14,10 @@ pub mod checks;
 pub mod closed;
 pub mod collisions;
 pub mod compare;
+pub mod comparisons;
 pub mod contests;
 pub mod crowded;
+pub mod curves;
 pub mod damage;
 pub mod enrolled;
 pub mod faults;
@@ -31,7 +33,9 @@ pub mod reached;
 pub mod roll;
 pub mod sets;
 pub mod sha256;
+pub mod sha512;
 pub mod sound;
 pub mod stand_in;
 pub mod stored;
 pub mod told;
+pub mod zeros;

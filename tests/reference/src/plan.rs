@@ -2,15 +2,16 @@
 //! the links and hashes, so that an item can be changed and all after it stays right. The roll goes with it.
 
 use crate::audit::Board;
+use crate::curves::widened;
 use crate::format::*;
-use crate::sha256::Hash;
 
-/// The parent field. Positions count items from 0.
+/// The parent field. Positions count items from 0. Of words that are given here and below, the field has as many as
+/// the board's addresses have.
 #[derive(Clone, Debug, PartialEq)]
 pub enum Link {
     Zeros,
     Item(usize),
-    Words([u32; 8]),
+    Words(Digest),
 }
 
 /// The previous field: right for the item's kind, or something else.
@@ -18,16 +19,20 @@ pub enum Link {
 pub enum Previous {
     Right,
     Item(usize),
-    Words([u32; 8]),
+    Words(Digest),
 }
 
 /// The address field: right, or one of the plausible mistakes.
 #[derive(Clone, Debug, PartialEq)]
 pub enum Address {
     Right,
-    Words([u32; 8]),
-    /// The right address with this bit of 256 turned over.
+    Words(Digest),
+    /// The right address with this bit turned over.
     Flipped(usize),
+    /// The hash of another curve, cut or with zeros behind it.
+    Of(Curve),
+    /// So many words of the right address, and zeros.
+    First(usize),
     WithSignature,
     WithoutHead,
     WithoutCount,
@@ -44,10 +49,13 @@ pub struct Spec {
     pub parent: Link,
     pub previous: Previous,
     pub time: u64,
-    pub signature: [u32; 16],
+    /// As many of these words as the board's signatures have.
+    pub signature: [u32; WIDEST_SIGNATURE],
+    /// The words of the signature where they are not as many.
+    pub signature_words: Option<usize>,
     pub address: Address,
     pub verdict: u32,
-    pub key: [u32; 8],
+    pub key: [u32; FINGERPRINT],
 }
 
 #[derive(Clone, Debug)]
@@ -66,6 +74,8 @@ pub struct Plan {
     pub cut: Option<(usize, usize)>,
     /// The verdicts end after so many words.
     pub verdicts_cut: Option<usize>,
+    /// The curve by which the words are laid out and hashed, where it is not the one that they tell.
+    pub laid_as: Option<Curve>,
 }
 
 /// A board as words.
@@ -76,7 +86,7 @@ pub struct Laid {
     pub roll: Vec<u32>,
     /// Where each item's head stands, and its address.
     pub places: Vec<usize>,
-    pub addresses: Vec<[u32; 8]>,
+    pub addresses: Vec<Digest>,
 }
 
 impl Laid {
@@ -98,14 +108,15 @@ impl Plan {
             head: None,
             cut: None,
             verdicts_cut: None,
+            laid_as: None,
         }
     }
 
-    /// The width of its sets, as its first words will have it.
-    pub fn width(&self) -> Width {
+    /// How its words are read, as the first of them will tell.
+    pub fn layout(&self) -> Layout {
         let first = &self.items[0];
         let count = first.count.unwrap_or(first.content.len());
-        Width::of(&[&[head(first.kind, first.code, count)], &first.content[..]].concat())
+        Layout::of(&[&[head(first.kind, first.code, count)], &first.content[..]].concat())
     }
 
     /// Puts an item before the one at `at`; links to later positions follow.
@@ -135,11 +146,19 @@ impl Plan {
         }
     }
 
-    pub fn lay(&self, hash: Hash) -> Laid {
+    pub fn lay(&self) -> Laid {
+        self.lay_with(Curve::hash)
+    }
+
+    /// The same with another hash.
+    pub fn lay_with(&self, hash: fn(Curve, &[u32]) -> Digest) -> Laid {
+        let curve = self.laid_as.unwrap_or(self.layout().curve);
+        let widths = curve.widths();
+        let hash = |message: &[u32]| hash(curve, message);
         let mut words = Vec::new();
         let mut verdicts = Vec::new();
         let mut places = Vec::new();
-        let mut addresses: Vec<[u32; 8]> = Vec::new();
+        let mut addresses: Vec<Digest> = Vec::new();
         let mut last_main = ZEROS;
         for spec in &self.items {
             let place = words.len();
@@ -148,7 +167,7 @@ impl Plan {
             words.push(head(spec.kind, spec.code, count));
             words.extend_from_slice(&spec.content);
             // An item further on has no address yet: some words that none has.
-            let address_of = |i: usize| addresses.get(i).copied().unwrap_or([0xaaaa_0000 + i as u32; 8]);
+            let address_of = |i: usize| addresses.get(i).copied().unwrap_or([0xaaaa_0000 + i as u32; WIDEST]);
             let parent = match spec.parent {
                 Link::Zeros => ZEROS,
                 Link::Item(i) => address_of(i),
@@ -160,12 +179,12 @@ impl Plan {
                 Previous::Item(i) => address_of(i),
                 Previous::Words(given) => given,
             };
-            words.extend_from_slice(&parent);
-            words.extend_from_slice(&previous);
+            words.extend_from_slice(&parent[..widths.address]);
+            words.extend_from_slice(&previous[..widths.address]);
             words.push((spec.time >> 32) as u32);
             words.push(spec.time as u32);
             let hashed_end = words.len();
-            words.extend_from_slice(&spec.signature);
+            words.extend_from_slice(&spec.signature[..spec.signature_words.unwrap_or(widths.signature)]);
             let hashed = &words[place..hashed_end];
             let address = match spec.address {
                 Address::Right => hash(hashed),
@@ -175,6 +194,8 @@ impl Plan {
                     flipped[bit / 32] ^= 1 << (bit % 32);
                     flipped
                 }
+                Address::Of(other) => other.hash(hashed),
+                Address::First(words) => widened(&hash(hashed)[..words]),
                 Address::WithSignature => hash(&words[place..]),
                 Address::WithoutHead => hash(&hashed[1..]),
                 Address::WithoutCount => {
@@ -184,7 +205,7 @@ impl Plan {
                 }
                 Address::WithoutTime => hash(&hashed[..hashed.len() - 2]),
             };
-            words.extend_from_slice(&address);
+            words.extend_from_slice(&address[..widths.address]);
             addresses.push(address);
             if spec.kind != HIDDEN {
                 last_main = address;

@@ -1,5 +1,6 @@
 //! Numbers from a seed: xorshift64*, good enough to make boards and the same everywhere.
 
+use crate::curves::Digest;
 use crate::sets::Set;
 
 pub struct Random {
@@ -27,7 +28,16 @@ impl Random {
         (self.next() >> 32) as u32
     }
 
+    /// A word whose lowest bits, so many, are zero.
+    pub fn word_with_zeros(&mut self, zeros: u32) -> u32 {
+        self.word() >> zeros << zeros
+    }
+
     pub fn eight(&mut self) -> [u32; 8] {
+        std::array::from_fn(|_| self.word())
+    }
+
+    pub fn digest(&mut self) -> Digest {
         std::array::from_fn(|_| self.word())
     }
 

@@ -1,13 +1,15 @@
 //! What there must be boards of. Sound boards are to show ballots, who closed them and who opened them, as known
-//! from their making; all boards together, the ways in which a roll is good, bad, or lacks a voter, each at both
-//! widths of contest sets. Of the widths themselves see `widths`.
+//! from their making; all boards together, the ways in which a roll is good, bad, or lacks a voter, each in all six
+//! layouts. Of the widths of contest sets see `widths`, of the curves `curves`.
 
 use crate::calls::places;
 use crate::format::*;
 use crate::sound::Expected;
 
+mod curves;
 mod widths;
-pub use widths::{Sets, SETS_WANTED};
+pub use curves::{OnCurve, CURVES_WANTED};
+pub use widths::{Sets, ON_SECP256R1, SETS_WANTED};
 
 /// A ballot, the cast or spoil under it, and how far its track goes.
 struct Ballot {
@@ -151,8 +153,8 @@ impl Items<'_> {
     }
     /// Of the item whose head stands there.
     fn time_at(words: &[u32], place: usize) -> u64 {
-        // The content, the parent's address and the previous item's stand between the head and the time.
-        time(words, place + 1 + count(words[place]) + 16)
+        // The time is the last of the hashed words.
+        time(words, place + count(words[place]) + Layout::of(words).curve.hashed_frame() - 2)
     }
     fn voter(&self, session: u32) -> u32 {
         self.words[self.place(session) + 1]
@@ -216,7 +218,7 @@ struct Session {
 
 type ShowsRoll = fn(&Roll) -> bool;
 
-/// What only a narrow board shows: without words there are no traits.
+/// What only a board of the plain layout shows: without words there are no traits.
 pub const BLANK: &str = "20: a blank board";
 
 /// What there must be rolls of, by a short name.

@@ -3,10 +3,6 @@
 //! A board's words are hashed as bytes, high byte first. That is how the standard
 //! reads a block into words, so a message of whole words needs no bytes in between.
 
-/// A hash of a message of whole words. The auditor uses `sha256`; tests of
-/// collisions use a weak one.
-pub type Hash = fn(&[u32]) -> [u32; 8];
-
 // 4.2.2: the first 32 bits of the fractional parts of the cube roots of the first 64 primes.
 const K: [u32; 64] = [
     0x428a2f98, 0x71374491, 0xb5c0fbcf, 0xe9b5dba5, 0x3956c25b, 0x59f111f1, 0x923f82a4, 0xab1c5ed5, 0xd807aa98,

@@ -4,7 +4,7 @@ use crate::format::*;
 use crate::plan::{Address, Link, Plan, Previous, Spec, GOOD};
 use crate::random::Random;
 use crate::roll::{any_roll, pairs_of, roll_of, voters_of};
-use crate::sha256::Hash;
+use crate::sha256::sha256;
 
 /// What a board shall look like.
 #[derive(Clone, Copy, Debug)]
@@ -21,33 +21,41 @@ pub struct Shape {
     pub extraction: bool,
 }
 
-/// What a genesis says of traits: nothing, a word without any, or that contest sets are wide.
+/// What a genesis says of traits: nothing, or the word of a layout.
 #[derive(Clone, Copy, PartialEq, Eq, Debug)]
 pub enum Traits {
     Unsaid,
-    Zero,
-    Wide,
+    Said(Layout),
 }
 
 impl Traits {
-    pub const ALL: [Traits; 3] = [Traits::Unsaid, Traits::Zero, Traits::Wide];
+    pub const ALL: [Traits; 7] = [
+        Traits::Unsaid,
+        Traits::Said(LAYOUTS[0]),
+        Traits::Said(LAYOUTS[1]),
+        Traits::Said(LAYOUTS[2]),
+        Traits::Said(LAYOUTS[3]),
+        Traits::Said(LAYOUTS[4]),
+        Traits::Said(LAYOUTS[5]),
+    ];
 
     pub fn any(random: &mut Random) -> Traits {
-        *random.pick(&[Traits::Unsaid, Traits::Unsaid, Traits::Zero, Traits::Wide, Traits::Wide])
+        let layout = *random.pick(&LAYOUTS);
+        Traits::of_layout(layout, random)
     }
 
-    /// Those with which a board has sets of a width.
-    pub fn of_width(width: Width, random: &mut Random) -> Traits {
-        match width {
-            Width::Narrow => *random.pick(&[Traits::Unsaid, Traits::Unsaid, Traits::Zero]),
-            Width::Wide => Traits::Wide,
+    /// Those with which a board has a layout.
+    pub fn of_layout(layout: Layout, random: &mut Random) -> Traits {
+        match layout {
+            Layout::PLAIN if random.chance(70) => Traits::Unsaid,
+            _ => Traits::Said(layout),
         }
     }
 
-    pub fn width(self) -> Width {
+    pub fn layout(self) -> Layout {
         match self {
-            Traits::Wide => Width::Wide,
-            _ => Width::Narrow,
+            Traits::Unsaid => Layout::PLAIN,
+            Traits::Said(layout) => layout,
         }
     }
 
@@ -55,8 +63,7 @@ impl Traits {
     pub fn word(self) -> Option<u32> {
         match self {
             Traits::Unsaid => None,
-            Traits::Zero => Some(0),
-            Traits::Wide => Some(WIDE_SETS),
+            Traits::Said(layout) => Some(layout.traits()),
         }
     }
 }
@@ -102,8 +109,7 @@ pub struct Expected {
 pub struct Made {
     pub plan: Plan,
     pub expected: Expected,
-    /// Of its contest sets.
-    pub width: Width,
+    pub layout: Layout,
 }
 
 impl Made {
@@ -136,7 +142,7 @@ struct Round {
 struct Session {
     voter: u32,
     weight: u32,
-    key: [u32; 8],
+    key: [u32; FINGERPRINT],
     contests: Set,
     position: usize,
 }
@@ -144,18 +150,17 @@ struct Session {
 /// A board in the making. `crowded` makes boards of another kind with it.
 pub(crate) struct Maker<'a> {
     pub(crate) random: &'a mut Random,
-    hash: Hash,
     shape: Shape,
     traits: Traits,
-    pub(crate) width: Width,
+    pub(crate) layout: Layout,
     pub(crate) items: Vec<Spec>,
     words: usize,
     expected: Expected,
     /// The time of the last main item.
     pub(crate) now: u64,
-    pub(crate) administrator: [u32; 8],
-    pub(crate) ballot_box: [u32; 8],
-    pub(crate) authorizer: [u32; 8],
+    pub(crate) administrator: [u32; FINGERPRINT],
+    pub(crate) ballot_box: [u32; FINGERPRINT],
+    pub(crate) authorizer: [u32; FINGERPRINT],
     pub(crate) contests: Set,
     rounds: Vec<Round>,
     trustees: u32,
@@ -180,14 +185,14 @@ pub(crate) struct Maker<'a> {
 }
 
 /// A random sound board of this shape, with no word of traits.
-pub fn make(random: &mut Random, hash: Hash, shape: Shape) -> Made {
-    make_with(random, hash, shape, Traits::Unsaid)
+pub fn make(random: &mut Random, shape: Shape) -> Made {
+    make_with(random, shape, Traits::Unsaid)
 }
 
 /// The same with these traits.
-pub fn make_with(random: &mut Random, hash: Hash, shape: Shape, traits: Traits) -> Made {
+pub fn make_with(random: &mut Random, shape: Shape, traits: Traits) -> Made {
     for _ in 0..1_000 {
-        if let Some(made) = try_make(random, hash, shape, traits) {
+        if let Some(made) = try_make(random, shape, traits) {
             return made;
         }
     }
@@ -220,8 +225,8 @@ pub fn any_shape(random: &mut Random, most: usize) -> Shape {
     }
 }
 
-fn try_make(random: &mut Random, hash: Hash, shape: Shape, traits: Traits) -> Option<Made> {
-    let mut maker = Maker::new(random, hash, shape, traits);
+fn try_make(random: &mut Random, shape: Shape, traits: Traits) -> Option<Made> {
+    let mut maker = Maker::new(random, shape, traits);
     for _ in 0..shape.voters.max(1) {
         let voter = if maker.random.chance(80) { maker.random.below(1000) as u32 } else { maker.random.word() };
         maker.voters.push(voter);
@@ -244,20 +249,19 @@ fn first_time(random: &mut Random) -> u64 {
 }
 
 impl Maker<'_> {
-    pub(crate) fn new(random: &mut Random, hash: Hash, shape: Shape, traits: Traits) -> Maker<'_> {
+    pub(crate) fn new(random: &mut Random, shape: Shape, traits: Traits) -> Maker<'_> {
         let now = first_time(random);
         let mut maker = Maker {
-            hash,
             shape,
             traits,
-            width: traits.width(),
+            layout: traits.layout(),
             items: Vec::new(),
             words: 1,
             expected: Expected::default(),
             now,
             administrator: random.eight(),
             ballot_box: random.eight(),
-            authorizer: ZEROS,
+            authorizer: NO_KEY,
             contests: Set::EMPTY,
             rounds: Vec::new(),
             trustees: 0,
@@ -290,7 +294,7 @@ impl Maker<'_> {
             expected.ballots.push([expected.rows[ballot].mains_before + 1, voter, weight]);
         }
         let roll = any_roll(&voters_of(&self.items), self.random);
-        Made { plan: Plan::new(self.items, roll), expected, width: self.width }
+        Made { plan: Plan::new(self.items, roll), expected, layout: self.layout }
     }
 
     fn run(&mut self) {
@@ -334,13 +338,18 @@ impl Maker<'_> {
             Some(words) => {
                 let items_left = self.shape.items.saturating_sub(self.items.len()).max(1);
                 let words_left = words.saturating_sub(self.words);
-                if words_left / items_left > 85 {
+                if words_left / items_left > self.frame() + 42 {
                     100
                 } else {
                     0
                 }
             }
         }
+    }
+
+    /// The words of an item beside its content.
+    fn frame(&self) -> usize {
+        self.layout.curve.frame()
     }
 
     /// A time for the next main item: often the same, mostly a little later.
@@ -353,7 +362,14 @@ impl Maker<'_> {
         self.now + step
     }
 
-    pub(crate) fn add(&mut self, code: u32, parent: usize, content: Vec<u32>, time: u64, key: [u32; 8]) -> usize {
+    pub(crate) fn add(
+        &mut self,
+        code: u32,
+        parent: usize,
+        content: Vec<u32>,
+        time: u64,
+        key: [u32; FINGERPRINT],
+    ) -> usize {
         let position = self.items.len();
         let kind = kind_of(code).expect("a listed type");
         let session = match code {
@@ -370,7 +386,8 @@ impl Maker<'_> {
             self.expected.mains += 1;
             self.now = time;
         }
-        self.words += content.len() + FRAME;
+        self.words += content.len() + self.frame();
+        let signature = self.signature();
         self.items.push(Spec {
             kind,
             code,
@@ -379,7 +396,8 @@ impl Maker<'_> {
             parent: if code == GENESIS { Link::Zeros } else { Link::Item(parent) },
             previous: Previous::Right,
             time,
-            signature: std::array::from_fn(|_| self.random.word()),
+            signature,
+            signature_words: None,
             address: Address::Right,
             verdict: GOOD,
             key,
@@ -388,6 +406,12 @@ impl Maker<'_> {
             self.config = position;
         }
         position
+    }
+
+    /// Some words for a signature; behind those that the board's have, zeros.
+    fn signature(&mut self) -> [u32; WIDEST_SIGNATURE] {
+        let length = self.layout.curve.widths().signature;
+        std::array::from_fn(|at| if at < length { self.random.word() } else { 0 })
     }
 
     fn configure(&mut self, code: u32, content: Vec<u32>) {
@@ -432,7 +456,7 @@ impl Maker<'_> {
         let many = self.shape.long >= 60 || self.shape.words.is_some();
         let contests = if many { self.random.between(20, 32) } else { self.random.between(1, 6) };
         let most = self.shape.items / 10;
-        match self.width {
+        match self.layout.sets {
             Width::Wide if self.shape.items >= MANY_ITEMS => {
                 let some = self.random.between(40, 255);
                 (*self.random.pick(&[256, some])).min(self.shape.items - 44)
@@ -459,12 +483,12 @@ impl Maker<'_> {
 
     /// All contests that a board of this width can have, in some order, without a text.
     pub(crate) fn add_all_contests(&mut self) {
-        let mut numbers: Vec<u32> = Set::all(self.width).numbers().collect();
+        let mut numbers: Vec<u32> = Set::all(self.layout.sets).numbers().collect();
         self.random.shuffle(&mut numbers);
         for number in numbers {
             self.configure(CONTEST, vec![number]);
         }
-        self.contests = Set::all(self.width);
+        self.contests = Set::all(self.layout.sets);
     }
 
     /// A number for a round that no item before has; 16 of them can be asked for.
@@ -479,13 +503,13 @@ impl Maker<'_> {
 
     /// A number for a contest: mostly a new one, and on wide boards often one at an end of a set's word.
     fn contest_number(&mut self) -> u32 {
-        let new = Set::all(self.width).minus(self.contests);
+        let new = Set::all(self.layout.sets).minus(self.contests);
         if self.random.chance(70) && !new.is_empty() {
             let ends = Set::at_ends() & new;
-            let at_end = self.width == Width::Wide && !ends.is_empty() && self.random.chance(50);
+            let at_end = self.layout.sets == Width::Wide && !ends.is_empty() && self.random.chance(50);
             self.random.contest(if at_end { ends } else { new })
         } else {
-            self.random.below(self.width.contests() as usize) as u32
+            self.random.below(self.layout.sets.contests() as usize) as u32
         }
     }
 
@@ -525,7 +549,7 @@ impl Maker<'_> {
             2 => time + (1 << 33),
             _ => start.max(time) + self.random.between(1_000, 1_000_000) as u64,
         };
-        let content = round_content(self.width, number, contests, start, end);
+        let content = round_content(self.layout.sets, number, contests, start, end);
         self.add(ROUND, self.config, content, time, self.administrator);
         self.rounds.retain(|r| r.number != number);
         self.rounds.push(Round { number, contests, start, end });
@@ -555,7 +579,7 @@ impl Maker<'_> {
 
     /// One more item of the voting phase.
     fn step(&mut self) {
-        let ready = self.threshold > 0 && self.authorizer != ZEROS && !self.contests.is_empty();
+        let ready = self.threshold > 0 && self.authorizer != NO_KEY && !self.contests.is_empty();
         let choice = self.random.below(100);
         if choice < 3 || !ready {
             match self.random.below(4) {
@@ -605,7 +629,7 @@ impl Maker<'_> {
         let mut content = vec![voter, weight];
         content.extend(key);
         content.extend(self.random.eight());
-        content.extend(contests.words(self.width));
+        content.extend(contests.words(self.layout.sets));
         let position = self.add(SESSION, self.config, content, time, self.authorizer);
         // The voter's earlier session is overwritten: nothing may follow in it.
         self.sessions.retain(|s| s.voter != voter);
@@ -624,8 +648,9 @@ impl Maker<'_> {
     }
 
     pub(crate) fn commitment(&mut self) -> Vec<u32> {
-        let mut content = self.random.words(9);
-        content[8] &= 0xff00_0000;
+        let widths = self.layout.curve.widths();
+        let mut content = self.random.words(widths.commitment - 1);
+        content.push(self.random.word_with_zeros(widths.commitment_zeros));
         content
     }
 
@@ -676,14 +701,15 @@ impl Maker<'_> {
                 some | Set::one(self.random.contest(possible))
             }
         };
-        if self.width == Width::Wide && self.random.chance(self.shape.long / 4) {
+        if self.layout.sets == Width::Wide && self.random.chance(self.shape.long / 4) {
             contests = possible;
         }
-        // A hundred words are left for each item to come.
+        // Some words are left for the content of each item to come.
         let items_left = self.shape.items.saturating_sub(self.items.len());
-        let words_left = self.shape.words.unwrap_or(MAX_WORDS).saturating_sub(self.words + 100 * items_left);
-        let most = (words_left / CRYPTOGRAM).max(1);
-        while self.width == Width::Wide && contests.count() > most {
+        let left_out = self.words + (self.frame() + 57) * items_left;
+        let words_left = self.shape.words.unwrap_or(MAX_WORDS).saturating_sub(left_out);
+        let most = (words_left / self.layout.curve.widths().cryptogram).max(1);
+        while contests.count() > most {
             contests = contests.minus(Set::one(self.random.contest(contests)));
         }
         contests
@@ -691,10 +717,10 @@ impl Maker<'_> {
 
     /// The content of a ballot with these contests.
     pub(crate) fn ballot_content(&mut self, contests: Set) -> Vec<u32> {
-        let mut content = contests.words(self.width).to_vec();
+        let mut content = contests.words(self.layout.sets).to_vec();
         for _ in 0..contests.count() {
-            content.extend(self.random.words(CRYPTOGRAM - 1));
-            content.push(self.random.word() & 0xffff_0000);
+            content.extend(self.random.words(self.layout.curve.widths().cryptogram - 1));
+            content.push(self.random.word_with_zeros(CRYPTOGRAM_ZEROS));
         }
         content
     }
@@ -786,17 +812,17 @@ impl Maker<'_> {
         for left in (1..=texts).rev() {
             let Some(room) = words.checked_sub(self.words) else { return };
             let share = room / left;
-            if share < FRAME || share > FRAME + 64 {
+            if share < self.frame() || share > self.frame() + 64 {
                 return;
             }
-            let content = self.random.words(share - FRAME);
+            let content = self.random.words(share - self.frame());
             self.configure(TEXT, content);
         }
     }
 
     /// The words that `extract` will add where a size is exact: no hidden items, least sets.
     fn extraction_words(&self, items: usize) -> usize {
-        3 * FRAME + 8 + 1 + TRUSTEE * self.threshold as usize + (items - 3) * FRAME
+        items * self.frame() + FINGERPRINT + 1 + TRUSTEE * self.threshold as usize
     }
 
     pub(crate) fn intent(&mut self) {
@@ -834,7 +860,7 @@ impl Maker<'_> {
         for &(ballot, _, _) in &self.counted {
             message.extend_from_slice(&self.items[ballot].content);
         }
-        let content = (self.hash)(&message).to_vec();
+        let content = sha256(&message).to_vec();
         let time = self.later();
         let added = self.add(EXTRACTION, parent, content, time, self.ballot_box);
         self.extractions.push(added);

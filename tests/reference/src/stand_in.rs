@@ -1,6 +1,6 @@
 //! The reference behind the auditor's C interface, to try the checks with: they must pass it, and must
 //! find each of the mistakes that it can be told to make. Those about the roll are in `rolls`, those about the
-//! widths of contest sets in `widths`.
+//! widths of contest sets in `widths`, those about curves in `curves`.
 
 use crate::ancestry::ancestry_with;
 use crate::audit::{audit_with, is_good_roll, is_spoiled, Board, History, Item, Opening, Rules, RULES};
@@ -10,12 +10,16 @@ use crate::interface::*;
 use std::slice::{from_raw_parts, from_raw_parts_mut};
 use std::sync::Mutex;
 
+mod curves;
 mod rolls;
 mod widths;
 
 /// What the ballot table needed before request (viii): a row for each item. A planted mistake
 /// asks for it still, and the checks pass it as a longer table.
 pub const BALLOTS_NEED_BEFORE: usize = 6_144;
+/// What an audit's answer needed before request (ix): an end address of eight words. A planted mistake takes it still, and
+/// the checks pass it as one that is too short.
+pub const ANSWER_NEED_BEFORE: usize = 14;
 /// What the index table needed before request (vii): rows of four words. A planted mistake takes it
 /// still, and the checks pass it as one that is too short.
 pub const INDEX_NEED_BEFORE: usize = 8_192;
@@ -51,6 +55,16 @@ pub enum About {
     Width,
     /// A contest set, or its cryptograms, that is to be refused: it passes.
     Contests,
+    /// The curve, or what is as wide as it has it.
+    Curve,
+    /// A commitment or a cryptogram with low bits that are to be zero: it passes.
+    Zeros,
+    /// The end address of an audit's answer.
+    End,
+    /// The words that an audit's answer needs.
+    Answer,
+    /// A comparison of two boards with different layouts.
+    TwoLayouts,
 }
 
 /// Makes the mistakes of a list: each has a name, what it is about, and what is wrong.
@@ -159,6 +173,42 @@ mistakes! {
     UndefinedLater, Contests, "contests of a set's later words need not be defined";
     EmptySets, Contests, "a round or a session without contests passes";
     CryptogramsUncounted, Contests, "a ballot's cryptograms are not counted";
+    OneCurve, Curve, "every board is on secp256r1";
+    WideOnOne, Curve, "sets are wide on secp256r1 alone";
+    CurveBitsTurned, Curve, "secp384r1 and secp521r1 are taken for each other";
+    UnknownTraitsTell, Curve, "a board with unknown traits is read as on its curve until it is refused";
+    Curve3As2, Curve, "a curve with the number 3 is taken for secp521r1";
+    Curve3Passes, Curve, "a curve with the number 3 passes as secp256r1";
+    Sha512Cut, Curve, "addresses on secp384r1 are SHA-512, cut to twelve words";
+    HashedOf19, Curve, "the hashed words are n + 19 on every curve";
+    Sha256OnAll, Curve, "addresses are SHA-256 on every curve";
+    AddressOfEight, Curve, "an address's first eight words alone are compared with the hash";
+    PreviousOfEight, Curve, "the first eight words of a previous field alone are compared";
+    ParentOfEight, Curve, "a parent is sought by the first eight words of its address";
+    AddressOfTwelve, Curve, "an address's first twelve words alone are compared with the hash";
+    PreviousOfTwelve, Curve, "the first twelve words of a previous field alone are compared";
+    ParentOfTwelve, Curve, "a parent is sought by the first twelve words of its address";
+    SignatureOf16, Curve, "a signature has 16 words on every curve";
+    SignatureOf32, Curve, "a signature has 32 words on secp521r1";
+    VerdictAsAddress, Curve, "a verdict's key fingerprint is as wide as an address";
+    KeyAsAddress, Curve, "a verifier's key fingerprint is as wide as an address";
+    FingerprintByCurve, Curve, "the fingerprint of ballots is the curve's hash, cut to eight words";
+    ShareAsSignature, Curve, "a trustee's share is as wide as a signature";
+    CommitmentOf9, Curve, "a commitment has nine words on every curve";
+    NinthWord, Curve, "the ninth word of a commitment is the last on every curve";
+    ZerosOf24, Curve, "the low 24 bits of a commitment are zero on secp521r1, too";
+    CryptogramOf17, Curve, "a cryptogram has 17 words on every curve";
+    SeventeenthWord, Curve, "the 17th word of a cryptogram is the last on every curve";
+    CryptogramOf33, Curve, "a cryptogram has 33 words on secp521r1";
+    ZerosOf8, Zeros, "eight low bits of a commitment are zero on every curve, the others any";
+    CryptogramsUnseen, Zeros, "the low bits of cryptograms are not looked at";
+    CryptogramZerosOf8, Zeros, "eight low bits of a cryptogram are zero on secp521r1, the others any";
+    AnswerOf14, Answer, "14 words of answer are taken, for an end address of eight";
+    EndOfEight, End, "the end address has eight words and zeros on every curve";
+    EndUnpadded, End, "the words behind an end address stay as they were";
+    LayoutOfKept, TwoLayouts, "the later board is read with the kept board's layout";
+    ApartBeforeAudit, TwoLayouts, "boards on two curves are apart though the later one is refused";
+    ApartBeforeNumber, TwoLayouts, "boards on two curves are apart before 19";
 }
 
 /// The mistake that the stand-in makes.
@@ -230,8 +280,8 @@ fn with_ballots<T>(table: &mut [u32], run: impl FnOnce(&mut [u32]) -> T) -> T {
     }
 }
 
-/// The rules by which the stand-in audits: a mistake about openings, casts of opened ballots, the roll, or contest
-/// sets makes one of them wrong.
+/// The rules by which the stand-in audits: a mistake about openings, casts of opened ballots, the roll, contest sets or
+/// curves makes one of them wrong.
 fn rules() -> Rules {
     let may_open: fn(&Opening) -> bool = match made() {
         Some(Mistake::SpoilNotAskedFor) => |_| true,
@@ -255,8 +305,10 @@ fn rules() -> Rules {
         may_cast,
         is_good_roll: rolls::roll_test(),
         is_enrolled: rolls::roll_search(),
+        layout: curves::layout_rules(widths::layout_rules()),
         sets: widths::set_rules(),
-        ..RULES
+        hash: curves::hash_rule(),
+        fingerprint: curves::fingerprint_rule(),
     }
 }
 
@@ -282,13 +334,14 @@ fn any_spoil(opening: &Opening, fits: impl Fn(&Item) -> bool) -> bool {
 
 /// Whether the words have a spoil of the opening's ballot, at no later time, anywhere behind the ballot.
 fn is_spoiled_behind(opening: &Opening) -> bool {
-    let ballot = opening.history.item(opening.ballot);
+    let (ballot, curve) = (opening.history.item(opening.ballot), opening.history.layout().curve);
     let mut words = &opening.board[ballot.place..];
-    while !words.is_empty() && words.len() >= count(words[0]) + FRAME {
-        let (item, behind) = words.split_at(count(words[0]) + FRAME);
+    while !words.is_empty() && words.len() >= count(words[0]) + curve.frame() {
+        let (item, behind) = words.split_at(count(words[0]) + curve.frame());
         // A spoil has no content: its parent follows its head.
         let is_spoil = item[0] == head(MAIN, SPOIL, 0);
-        if is_spoil && eight(item, 1) == ballot.address && time(item, 17) <= opening.time {
+        let time_at = curve.hashed_frame() - 2;
+        if is_spoil && curve.address(item, 1) == ballot.address && time(item, time_at) <= opening.time {
             return true;
         }
         words = behind;
@@ -369,6 +422,14 @@ unsafe extern "C" fn stand_in_audit(
     index: *mut u32, index_len: usize, ballots: *mut u32, ballots_len: usize,
     answer: *mut u32, answer_len: usize,
 ) -> bool {
+    if answer_len < AUDIT_ANSWER && made() == Some(Mistake::AnswerOf14) && answer_len >= ANSWER_NEED_BEFORE {
+        let mut longer = [0; AUDIT_ANSWER];
+        let given = stand_in_audit(
+            board, board_len, verdicts, verdicts_len, roll, roll_len, index, index_len, ballots, ballots_len,
+            longer.as_mut_ptr(), AUDIT_ANSWER);
+        from_raw_parts_mut(answer, answer_len)[..ANSWER_NEED_BEFORE].copy_from_slice(&longer[..ANSWER_NEED_BEFORE]);
+        return given;
+    }
     if answer_len < AUDIT_ANSWER {
         return too_short(answer, answer_len);
     }
@@ -387,7 +448,8 @@ unsafe extern "C" fn stand_in_audit(
         report.number = in_wrong_order(board, report.number, report.items);
         report
     });
-    finish(answer, answer_len, &audit_words(&report), [(index, index_len), (ballots, ballots_len)])
+    let words = curves::answer_with_end(board, audit_words(&report), from_raw_parts(answer, answer_len));
+    finish(answer, answer_len, &words, [(index, index_len), (ballots, ballots_len)])
 }
 
 #[rustfmt::skip]
@@ -428,7 +490,8 @@ unsafe extern "C" fn stand_in_compare(
     let comparison = with_tables(kept, kept_tables, |of_kept| with_tables(later, later_tables, |of_later| {
         let kept_tables = Tables { index: &mut *of_kept.index, ballots: of_kept.ballots };
         let later_tables = Tables { index: &mut *of_later.index, ballots: of_later.ballots };
-        let mut comparison = compare_with(rules(), kept, later, main_number, kept_tables, later_tables);
+        let both = [rules(), curves::later_rules(rules(), kept)];
+        let mut comparison = compare_with(both, kept, later, main_number, kept_tables, later_tables);
         if let Comparison::Refused { side, number, items } = &mut comparison {
             let board = if *side == Side::Kept { kept } else { later };
             *number = in_wrong_order(board, *number, *items);
@@ -443,7 +506,7 @@ unsafe extern "C" fn stand_in_compare(
         if refused.is_none() {
             close_wrongly(later, of_later.index, Of::Later);
         }
-        comparison
+        curves::apart_too_soon(kept, later, comparison)
     }));
     let tables = [(later_index, later_index_len), (later_ballots, later_ballots_len)];
     finish(answer, answer_len, &compare_words(&comparison), tables)

@@ -20,7 +20,7 @@ pub struct Stored {
 /// Checks every folder in a folder, in name order: the reference, and the library where there is one.
 pub fn check_folder(folder: &Path, library: Option<Interface>) -> Result<Stored, String> {
     let mut stored = Stored::default();
-    for path in boards(folder)? {
+    for path in folders(folder)? {
         check_board(&path, library, &mut stored).map_err(|message| format!("{}: {message}", path.display()))?;
     }
     Ok(stored)
@@ -66,8 +66,8 @@ fn answer(printed: &str) -> Option<(u32, u32)> {
     }
 }
 
-/// The folders with a board, in name order.
-fn boards(folder: &Path) -> Result<Vec<PathBuf>, String> {
+/// The folders with something that is expected, in name order.
+pub fn folders(folder: &Path) -> Result<Vec<PathBuf>, String> {
     let mut paths = Vec::new();
     for entry in fs::read_dir(folder).map_err(|e| format!("{}: {e}", folder.display()))? {
         let path = entry.map_err(|e| e.to_string())?.path();

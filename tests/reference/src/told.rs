@@ -1,11 +1,12 @@
 //! What holds of an accepted board's tables, whoever filled them, told from the words of the board and of its
-//! roll alone: nothing of `audit` is used. The properties are in `closed`, `opened`, `enrolled` and `contests`.
+//! roll alone: nothing of `audit` is used. The properties are in `closed`, `opened`, `enrolled`, `contests` and `zeros`.
 
 use crate::closed::*;
 use crate::contests::*;
 use crate::enrolled::*;
 use crate::format::*;
 use crate::opened::*;
+use crate::zeros::*;
 use std::collections::HashMap;
 
 /// The words of the rows, where the fifth of an index row stands, and its value where it is not in use.
@@ -17,6 +18,37 @@ const FIFTH: usize = 4;
 const NOT_IN_USE: u32 = 4_294_967_295;
 /// The head of a genesis with a word of traits.
 const HEAD_OF_TRAITS: u32 = 0x1001_0012;
+
+/// How wide the fields of a board are, in words.
+#[derive(Clone, Copy)]
+pub struct Fields {
+    pub set: usize,
+    pub address: usize,
+    pub signature: usize,
+    pub commitment: usize,
+    /// A commitment's last word is a multiple of this.
+    pub commitment_unit: u32,
+    pub cryptogram: usize,
+}
+
+impl Fields {
+    /// By the traits word of an accepted board.
+    fn of(words: &[u32]) -> Fields {
+        let traits = if words[0] == HEAD_OF_TRAITS { words[18] } else { 0 };
+        let set = if traits % 2 == 1 { 8 } else { 1 };
+        let (address, signature, commitment, commitment_unit, cryptogram) = match traits / 2 {
+            0 => (8, 16, 9, 1 << 24, 17),
+            1 => (12, 24, 13, 1 << 24, 25),
+            _ => (16, 33, 17, 1 << 8, 34),
+        };
+        Fields { set, address, signature, commitment, commitment_unit, cryptogram }
+    }
+
+    /// The words of an item with so many content words: head, content, parent, previous, time, signature, address.
+    fn length(&self, n: usize) -> usize {
+        1 + n + 2 * self.address + 2 + self.signature + self.address
+    }
+}
 
 /// A voter with a weight.
 #[derive(Clone, Copy, PartialEq, Eq, Debug)]
@@ -38,8 +70,7 @@ pub struct Told<'a> {
     pub codes: Vec<u32>,
     pub contents: Vec<&'a [u32]>,
     pub times: Vec<u64>,
-    /// The words of a contest set.
-    pub set_words: usize,
+    pub fields: Fields,
     /// The number of the first item with the address in the parent field, of those among which a type's
     /// parent is sought; 0 where there is none.
     pub parents: Vec<usize>,
@@ -57,7 +88,7 @@ pub struct Told<'a> {
 type Property = fn(&Told) -> Result<(), String>;
 
 /// What holds of the tables. Some of these follow from others; each is looked at by itself.
-pub const PROPERTIES: [Property; 16] = [
+pub const PROPERTIES: [Property; 18] = [
     any_two_differ,
     each_closer_is_named_once,
     only_ballots_have_one,
@@ -74,12 +105,34 @@ pub const PROPERTIES: [Property; 16] = [
     each_contest_has_a_cryptogram,
     each_ballot_is_within_its_session,
     each_ballot_is_enabled,
+    each_commitment_ends_with_zeros,
+    each_cryptogram_ends_with_zeros,
 ];
 
 /// Holds an accepted board's tables to all of them.
 pub fn check_told(words: &[u32], roll: &[u32], index: &[u32], ballots: &[u32]) -> Result<(), String> {
     let told = Told::new(words, roll, index, ballots)?;
     PROPERTIES.iter().try_for_each(|property| property(&told))
+}
+
+/// Holds the end address that an audit reports of an accepted board to its words: the address of the last main item,
+/// then zeros.
+pub fn check_end(words: &[u32], end: &[u32]) -> Result<(), String> {
+    let fields = Fields::of(words);
+    let (mut place, mut last) = (0, 0);
+    while kind(*words.get(place).ok_or("the items run past the end")?) != CLOSING {
+        let behind = place + fields.length(count(words[place]));
+        if kind(words[place]) == MAIN {
+            last = behind;
+        }
+        place = behind;
+    }
+    let mut right = words[last - fields.address..last].to_vec();
+    right.resize(end.len(), 0);
+    match end == right {
+        true => Ok(()),
+        false => Err(format!("the end address is {end:08x?}, by the board {right:08x?}")),
+    }
 }
 
 /// Which of them an accepted board's tables break.
@@ -94,16 +147,22 @@ impl<'a> Told<'a> {
         let mut told = Told::without_items(words, roll, &rows(ballots)?);
         let (mut mains, mut hidden): (HashMap<&[u32], usize>, HashMap<&[u32], usize>) = Default::default();
         let mut rows = index.chunks(ROW_OF_INDEX);
+        let width = told.fields.address;
         let mut place = 0;
-        while kind(words[place]) != CLOSING {
-            let end = place + count(words[place]) + FRAME;
-            let (parent, address) = (place + 1 + count(words[place]), end - 8);
+        while kind(*words.get(place).ok_or("the items run past the end")?) != CLOSING {
+            let parent = place + 1 + count(words[place]);
+            let time = parent + 2 * width;
+            let end = place + told.fields.length(count(words[place]));
+            let address = end - width;
+            if end > words.len() {
+                return Err(format!("the item at {place} runs past the end"));
+            }
             let code = code(words[place]);
             let sought = if code <= TRACK { &mains } else { &hidden };
-            told.parents.push(sought.get(&words[parent..parent + 8]).copied().unwrap_or(0));
+            told.parents.push(sought.get(&words[parent..parent + width]).copied().unwrap_or(0));
             told.codes.push(code);
             told.contents.push(&words[place + 1..parent]);
-            told.times.push(u64::from(words[parent + 16]) << 32 | u64::from(words[parent + 17]));
+            told.times.push(u64::from(words[time]) << 32 | u64::from(words[time + 1]));
             if code == SESSION {
                 told.sessions.push(Pair::at(&words[place + 1..]));
             }
@@ -127,7 +186,7 @@ impl<'a> Told<'a> {
             codes: Vec::new(),
             contents: Vec::new(),
             times: Vec::new(),
-            set_words: if words[0] == HEAD_OF_TRAITS && words[18] == 1 { 8 } else { 1 },
+            fields: Fields::of(words),
             parents: Vec::new(),
             fifth: Vec::new(),
             counted: rows.iter().map(|row| row[0]).collect(),

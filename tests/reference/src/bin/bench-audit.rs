@@ -10,7 +10,8 @@
 //! Where it is far from 1 the machine was too busy, and the row's ratios say little.
 //! `us/item` is the library's time for an item: boards of one kind have about as many words to
 //! an item, so it stays where the cost grows with the items and no faster. `ns/word` is its time for a word of the
-//! board: the last two boards are as long, one with contest sets of one word, one with sets of eight.
+//! board: the last four boards are as long, one on each curve, and one with contest sets of eight words.
+//! `ref/hash` is the reference's time over that of its own hash of the board's curve, on the items alone.
 //!
 //! `full/own` is the library's time with the full roll over that with a roll of the board's voters alone.
 //!
@@ -24,7 +25,6 @@ use reference::plan::Laid;
 use reference::program::bytes;
 use reference::random::Random;
 use reference::roll::{full_around, roll_of, voters_of};
-use reference::sha256::sha256;
 use reference::sound::{make_with, Shape, Traits};
 use std::fs;
 use std::hint::black_box;
@@ -73,12 +73,21 @@ fn main() {
         }
     );
     println!(
-        "   items    words    sets  reference   spread  hash only    library  lib/ref  lib/hash  us/item  ns/word  full/own"
+        "   items    words      curve    sets  reference   spread  hash only  ref/hash    library  lib/ref  lib/hash  \
+         us/item  ns/word  full/own"
     );
-    let narrow = [(100, None), (500, None), (2_048, None), (230, Some(16_384)), (2_048, Some(MAX_WORDS))];
-    let shapes = narrow.map(|(items, words)| (items, words, Traits::Unsaid));
+    let plain = |(items, words)| (items, words, Traits::Unsaid);
+    let [secp384r1, secp521r1] =
+        [Curve::Secp384r1, Curve::Secp521r1].map(|curve| Traits::Said(Layout { curve, sets: Width::Narrow }));
+    let wide = Traits::Said(Layout { sets: Width::Wide, ..Layout::PLAIN });
+    let ordinary = [(100, None), (500, None), (2_048, None)].map(plain);
+    // With as many items on larger curves.
+    let as_many = [secp384r1, secp521r1].map(|traits| (2_048, None, traits));
+    let long = [(230, Some(16_384)), (2_048, Some(MAX_WORDS))].map(plain);
+    // As long on larger curves, and with wide sets.
+    let as_long = [secp384r1, secp521r1, wide].map(|traits| (2_048, Some(MAX_WORDS), traits));
     let mut met = true;
-    for (items, words, traits) in shapes.into_iter().chain([(2_048, Some(MAX_WORDS), Traits::Wide)]) {
+    for (items, words, traits) in ordinary.into_iter().chain(as_many).chain(long).chain(as_long) {
         let (board, own_roll) = board(items, words, traits);
         if let Some(folder) = &folder {
             write(Path::new(folder), items, &board);
@@ -98,15 +107,15 @@ fn main() {
 fn board(items: usize, words: Option<usize>, traits: Traits) -> (Laid, Vec<u32>) {
     let shape = Shape { items, words, long: 10, voters: items / 8, extraction: true };
     let random = &mut Random::new(2026);
-    let mut plan = make_with(random, sha256, shape, traits).plan;
+    let mut plan = make_with(random, shape, traits).plan;
     let voters = voters_of(&plan.items);
     plan.roll = full_around(&voters, random);
-    (plan.lay(sha256), roll_of(voters))
+    (plan.lay(), roll_of(voters))
 }
 
 /// How a board's contest sets are named.
 fn sets(words: &[u32]) -> &'static str {
-    match Width::of(words) {
+    match Layout::of(words).sets {
         Width::Narrow => "narrow",
         Width::Wide => "wide",
     }
@@ -120,6 +129,7 @@ fn row(items: usize, laid: &Laid, own_roll: &[u32]) -> bool {
     let (report, history) = audit_with(RULES, board, &mut index, &mut ballots);
     assert_eq!(report.number, 0, "the board is sound");
     let history = history.expect("a history");
+    let curve = history.layout().curve;
     let (mut by_reference, mut hashes) = (Vec::new(), f64::MAX);
     let (mut by_library, mut with_own) = (f64::MAX, f64::MAX);
     let start = Instant::now();
@@ -136,7 +146,7 @@ fn row(items: usize, laid: &Laid, own_roll: &[u32]) -> bool {
         by_reference.push(now() - run);
         let run = now();
         for number in 1..=history.items() {
-            black_box(sha256(black_box(hashed(words, history.item(number)))));
+            black_box(curve.hash(black_box(hashed(words, curve, history.item(number)))));
         }
         hashes = hashes.min(now() - run);
         if let Some(library) = library() {
@@ -147,8 +157,10 @@ fn row(items: usize, laid: &Laid, own_roll: &[u32]) -> bool {
     by_reference.sort_by(f64::total_cmp);
     let reference = by_reference[0];
     let spread = by_reference[rounds / 2] / reference;
-    let (count, sets) = (words.len(), sets(words));
-    print!("{items:>8} {count:>8} {sets:>7} {reference:>10.1} {spread:>8.2} {hashes:>10.1}");
+    let (count, name, sets, over_hashes) = (words.len(), curve.name(), sets(words), reference / hashes);
+    print!(
+        "{items:>8} {count:>8} {name:>10} {sets:>7} {reference:>10.1} {spread:>8.2} {hashes:>10.1} {over_hashes:>9.2}"
+    );
     match library() {
         None => {
             println!("          -        -         -        -        -         -");
@@ -189,7 +201,8 @@ fn time_library(library: &Interface, board: Board, items: usize, index: &mut [u3
 }
 
 fn write(folder: &Path, items: usize, board: &Laid) {
-    let folder = folder.join(format!("{items}-items-{}-words-{}", board.words.len(), sets(&board.words)));
+    let (curve, sets) = (Layout::of(&board.words).curve.name(), sets(&board.words));
+    let folder = folder.join(format!("{items}-items-{}-words-{curve}-{sets}", board.words.len()));
     fs::create_dir_all(&folder).expect("a folder for the board");
     fs::write(folder.join("board.words"), bytes(&board.words)).expect("board.words");
     fs::write(folder.join("verdicts.words"), bytes(&board.verdicts)).expect("verdicts.words");

@@ -1,6 +1,7 @@
 //! Runs the checks: of the reference by itself, and of the auditor's library where it is linked.
 //!
-//!   check [--boards FOLDER]... [--header FILE] [--program FILE] [--cases N] [--seed N] [--dump FOLDER]
+//!   check [--boards FOLDER]... [--comparisons FOLDER] [--header FILE] [--program FILE] [--cases N] [--seed N]
+//!         [--dump FOLDER]
 //!   check --only GROUP SEED     one case again, as a failure names it
 //!   check --all-entries ..      a library that is not linked, or lacks an entry, is a failure
 //!   check --stand-in ..         the reference in the library's place, to try the harness
@@ -9,21 +10,22 @@ use reference::audit::Board;
 use reference::calls::{Tally, APART, COLLISION, SAME, SHORT_ANSWER};
 use reference::checks::*;
 use reference::collisions;
+use reference::comparisons::check_comparisons;
 use reference::crowded::{all_contests, crowded};
 use reference::faults::bad_roll;
-use reference::format::Width;
+use reference::format::{Curve, Layout, Width, CURVES, LAYOUTS};
 use reference::header::{check_header, check_header_mistakes};
 use reference::hidden::{bared, check_bared, check_hidden_tracks, Bared};
 use reference::interface::{library, Interface};
 use reference::program::{bytes, program, PROGRAM_WORDS};
 use reference::random::Random;
-use reference::reached::{BLANK, ROLLS_WANTED, SETS_WANTED, WANTED};
+use reference::reached::{BLANK, CURVES_WANTED, ON_SECP256R1, ROLLS_WANTED, SETS_WANTED, WANTED};
 use reference::roll::{full_around, voters_of};
-use reference::sha256::{check_vectors, sha256};
 use reference::sound::{Shape, Traits};
 use reference::stand_in::{make_mistake, stand_in, About, Mistake, MISTAKES};
 use reference::stored::check_folder;
 use reference::told::PROPERTIES;
+use reference::{sha256, sha512};
 use std::collections::{BTreeMap, BTreeSet};
 use std::fs;
 use std::path::{Path, PathBuf};
@@ -34,6 +36,7 @@ use std::time::Instant;
 
 struct Options {
     boards: Vec<PathBuf>,
+    comparisons: Option<PathBuf>,
     header: Option<PathBuf>,
     program: Option<PathBuf>,
     cases: u64,
@@ -47,9 +50,10 @@ struct Options {
 fn options() -> Options {
     let mut o = Options {
         boards: Vec::new(),
+        comparisons: None,
         header: None,
         program: None,
-        cases: 24_000,
+        cases: 36_000,
         seed: 0,
         dump: PathBuf::from("failed-case"),
         stand_in: false,
@@ -62,6 +66,7 @@ fn options() -> Options {
         let number = |text: String| text.parse::<u64>().unwrap_or_else(|_| usage());
         match arg.as_str() {
             "--boards" => o.boards.push(PathBuf::from(value())),
+            "--comparisons" => o.comparisons = Some(PathBuf::from(value())),
             "--header" => o.header = Some(PathBuf::from(value())),
             "--program" => o.program = Some(PathBuf::from(value())),
             "--cases" => o.cases = number(value()),
@@ -81,7 +86,8 @@ fn options() -> Options {
 
 fn usage() -> ! {
     eprintln!(
-        "usage: check [--boards FOLDER]... [--header FILE] [--program FILE] [--cases N] [--seed N] [--dump FOLDER]"
+        "usage: check [--boards FOLDER]... [--comparisons FOLDER] [--header FILE] [--program FILE] [--cases N] [--seed N] \
+         [--dump FOLDER]"
     );
     eprintln!("       check --only GROUP SEED");
     exit(2);
@@ -96,6 +102,7 @@ fn main() {
     vectors();
     header(&options);
     let tables = stored_boards(&options);
+    stored_comparisons(&options);
     collision_boards();
     hidden_tracks();
     let bared = refused_mains();
@@ -103,6 +110,7 @@ fn main() {
     if tables > 0 {
         stored_boards_find(&options);
     }
+    stored_comparisons_find(&options);
     bared_boards_find(&bared);
     let with = if options.stand_in { Some(stand_in()) } else { library() };
     if options.stand_in {
@@ -129,9 +137,11 @@ fn fail(message: &str) -> ! {
 }
 
 fn vectors() {
-    match check_vectors() {
-        Ok(count) => println!("sha-256    {count} known answers"),
-        Err(message) => fail(&message),
+    for (name, vectors) in [("sha-256", sha256::check_vectors()), ("sha-512", sha512::check_vectors())] {
+        match vectors {
+            Ok(count) => println!("{name}    {count} known answers"),
+            Err(message) => fail(&message),
+        }
     }
 }
 
@@ -168,21 +178,34 @@ fn stored_boards(options: &Options) -> usize {
     tables
 }
 
+fn stored_comparisons(options: &Options) {
+    let Some(folder) = &options.comparisons else { return };
+    match check_comparisons(folder, library()) {
+        Ok(count) => println!("stored     {count} comparisons are answered as expected ({})", folder.display()),
+        Err(message) => fail(&message),
+    }
+}
+
 fn collision_boards() {
     let mut seen = collisions::Seen::default();
     for seed in 0..1_500 {
-        let held = collisions::check(seed, &mut seen).and_then(|()| collisions::check_across(seed, &mut seen));
-        if let Err(message) = held {
-            fail(&message);
+        for check in [collisions::check, collisions::check_across, collisions::check_curves] {
+            check(seed, &mut seen).unwrap_or_else(|message| fail(&message));
         }
     }
-    if seen.across < 300 || seen.same < 50 || seen.collision < 500 || seen.uneven < 100 || seen.apart < 500 {
+    let few = seen.across < 300 || seen.same < 50 || seen.collision < 500 || seen.uneven < 100 || seen.apart < 500;
+    if few || seen.on_curve.iter().any(|&times| times < 100) || seen.curves_apart < 500 {
         fail(&format!("too few collisions were made: {seen:?}"));
     }
+    let [a, b, c] = seen.on_curve;
     println!(
-        "weak hash  {} collisions ({} at unequal main numbers, {} of a narrow and a wide board), {} same, {} apart, \
-         as demanded",
+        "weak hash  {} collisions ({} at unequal main numbers, {} of a narrow and a wide board; on the curves {a}, {b}, \
+         {c} of equal widths), {} same, {} apart, as demanded",
         seen.collision, seen.uneven, seen.across, seen.same, seen.apart
+    );
+    println!(
+        "           {} pairs of boards on two curves are apart, though their addresses are the same but for zeros",
+        seen.curves_apart
     );
 }
 
@@ -204,7 +227,7 @@ fn hidden_tracks() {
 /// the boards.
 fn refused_mains() -> Vec<Bared> {
     let makers = Makers::default();
-    let boards: Vec<Bared> = (0..2_100).filter_map(|seed| bared(&makers, seed)).collect();
+    let boards: Vec<Bared> = (0..4_500).filter_map(|seed| bared(&makers, seed)).collect();
     for (side, with) in [("reference", Some(stand_in())), ("library", library())] {
         let held = with.map_or(Ok(()), |with| boards.iter().try_for_each(|bared| check_bared(&with, bared)));
         if let Err(message) = held {
@@ -212,7 +235,7 @@ fn refused_mains() -> Vec<Bared> {
         }
     }
     let reasons: BTreeSet<&str> = boards.iter().map(|bared| &bared.reason[..]).collect();
-    if boards.len() < 500 || reasons.len() < 200 {
+    if boards.len() < 1_000 || reasons.len() < 250 {
         fail(&format!("only {} boards, for {} reasons, are refused at a main item", boards.len(), reasons.len()));
     }
     println!(
@@ -234,6 +257,9 @@ struct Tried {
     ordered: Vec<Case>,
     widths: Vec<Case>,
     contests: Vec<Case>,
+    curves: Vec<Case>,
+    zeros: Vec<Case>,
+    two_layouts: Vec<Case>,
 }
 
 impl Default for Tried {
@@ -241,9 +267,15 @@ impl Default for Tried {
         let makers = Makers::default();
         let sound: Vec<Case> = (0..400).map(|seed| case(&makers, Group::Sound, seed)).collect();
         let many = (0..4).map(|seed| case(&makers, Group::Contests, seed)).collect();
-        let of = |reason: &str| cases_of(&makers, reason, 6);
-        let traits = cases_of(&makers, "13/trait,", 2);
-        let all_contests = cases_of(&makers, "13/all contests,", 1);
+        let of = |reason: &str| cases_of(&makers, reason, &[0, 1, 2, 3, 4, 5]);
+        // One of each curve.
+        let some = |reason: &str| cases_of(&makers, reason, &[0, 2, 5]);
+        let traits = cases_of(&makers, "13/trait,", &[1, 4]);
+        // Some with each bit.
+        let bits = cases_of(&makers, "13/cryptogram bits", &(0..18).collect::<Vec<usize>>());
+        let all_contests = cases_of(&makers, "13/all contests,", &[0, 1, 2]);
+        let differ = |case: &Case| Layout::of(&case.words) != Layout::of(&case.other.words);
+        let faulty = (0..2_000).map(|seed| case(&makers, Group::Faults, seed));
         Tried {
             full: vec![case(&makers, Group::Full, 0)],
             openings: of("11/opening"),
@@ -251,8 +283,11 @@ impl Default for Tried {
             bad_rolls: of("20/roll"),
             unenrolled: of("21/roll"),
             ordered: [of("13/roll"), of("21/roll, voter missing")].concat(),
-            widths: [of("/width,"), traits, all_contests, sound[..200].to_vec(), many].concat(),
+            widths: [of("/width,"), traits.clone(), all_contests, sound[..200].to_vec(), many].concat(),
             contests: [of("13/width,"), of("without contests")].concat(),
+            curves: [some("/curve,"), of("eighth word"), some("13/low bits"), traits, sound[..100].to_vec()].concat(),
+            zeros: [of("bit of a commitment"), some("13/low bits"), bits].concat(),
+            two_layouts: sound.iter().cloned().chain(faulty).filter(differ).collect(),
             sound,
         }
     }
@@ -263,7 +298,7 @@ impl Tried {
     fn by(&self, mistake: Option<Mistake>) -> Vec<(&[Case], [Check; 3])> {
         let Some(mistake) = mistake else {
             let others = [&self.openings, &self.casts, &self.bad_rolls, &self.unenrolled, &self.ordered];
-            let sets = [&self.widths, &self.contests];
+            let sets = [&self.widths, &self.contests, &self.curves, &self.zeros, &self.two_layouts];
             let mut all: Vec<(&[Case], _)> = vec![(&self.full, FULL_LENGTHS), (&self.sound, TOLD)];
             all.extend([&self.sound].into_iter().chain(others).chain(sets).map(|cases| (&cases[..], ANY_LENGTH)));
             return all;
@@ -271,7 +306,7 @@ impl Tried {
         let alone = |cases| vec![(cases, ANY_LENGTH)];
         let also_told = |cases| vec![(cases, ANY_LENGTH), (cases, TOLD)];
         match mistake.about() {
-            About::Words | About::Refused => alone(&self.sound[..]),
+            About::Words | About::Refused | About::Answer => alone(&self.sound[..]),
             About::Lengths => vec![(&self.full, FULL_LENGTHS)],
             About::Closed => also_told(&self.sound[..]),
             About::Accepted => also_told(&self.openings[..]),
@@ -281,6 +316,10 @@ impl Tried {
             About::Order => alone(&self.ordered[..]),
             About::Width => alone(&self.widths[..]),
             About::Contests => also_told(&self.contests[..]),
+            About::Curve => alone(&self.curves[..]),
+            About::Zeros => also_told(&self.zeros[..]),
+            About::End => also_told(&self.sound[..]),
+            About::TwoLayouts => alone(&self.two_layouts[..]),
             About::OtherRoll => {
                 [&self.sound, &self.bad_rolls, &self.unenrolled].map(|cases| (&cases[..], ANY_LENGTH)).to_vec()
             }
@@ -297,8 +336,8 @@ fn mistakes_are_found() {
     for mistake in [None].into_iter().chain(MISTAKES.iter().copied().map(Some)) {
         make_mistake(mistake);
         let tried = boards.by(mistake);
-        let found: Vec<[usize; 3]> = tried.iter().map(|&(cases, checks)| differences(cases, checks)).collect();
         let wanted = mistake.map_or([false; 3], entries);
+        let found: Vec<[usize; 3]> = tried.iter().map(|&(cases, checks)| differences(cases, checks, wanted)).collect();
         let right = found.iter().all(|times| times.map(|times| times > 0) == wanted);
         if !right {
             let what = mistake.map_or("none", Mistake::what);
@@ -314,41 +353,53 @@ fn mistakes_are_found() {
     }
     let everywhere = MISTAKES.iter().filter(|&&mistake| entries(mistake) == [true; 3]).count();
     println!("harness    {everywhere} planted mistakes are found in each entry");
-    println!("           {} more in the comparison, the one entry that can make them", MISTAKES.len() - everywhere);
-    let alone = MISTAKES.iter().filter(|&&mistake| found_alone(mistake)).count();
-    println!("           {alone} of them without the reference, by {} properties of the tables", PROPERTIES.len());
+    println!("           {} more in the one entry that can make them", MISTAKES.len() - everywhere);
+    let is_alone = |mistake: Mistake| found_alone(mistake) || mistake.about() == About::End;
+    let alone = MISTAKES.iter().filter(|&&mistake| is_alone(mistake)).count();
+    println!(
+        "           {alone} of them without the reference, by {} properties of the tables or by the end address",
+        PROPERTIES.len()
+    );
 }
 
 /// The entries in which a mistake is to be found, of audit, compare and ancestry: all where it can be made.
 fn entries(mistake: Mistake) -> [bool; 3] {
     match mistake.about() {
-        About::OtherRoll => [false, true, false],
+        About::OtherRoll | About::TwoLayouts => [false, true, false],
+        About::End | About::Answer => [true, false, false],
         _ => [true; 3],
     }
 }
 
-/// Boards that are refused for a reason of which this is a part, so many for each; narrow and wide ones by turns.
-fn cases_of(makers: &Makers, reason: &str, turns: usize) -> Vec<Case> {
+/// Boards that are refused for a reason of which this is a part, one for each of some turns; layouts go by turns.
+fn cases_of(makers: &Makers, reason: &str, turns: &[usize]) -> Vec<Case> {
     let ways = (0..makers.faults.len()).filter(|&way| makers.faults[way].reason.contains(reason));
-    let seeds = ways.flat_map(|way| (0..turns).map(move |turn| (way + turn * makers.faults.len()) as u64));
+    let seeds = ways.flat_map(|way| turns.iter().map(move |turn| (way + turn * makers.faults.len()) as u64));
     seeds.map(|seed| case(makers, Group::Faults, seed)).collect()
 }
 
 /// Whether a mistake is to be found without the reference.
 fn found_alone(mistake: Mistake) -> bool {
-    matches!(mistake.about(), About::Closed | About::Accepted | About::Unenrolled | About::Contests)
+    matches!(mistake.about(), About::Closed | About::Accepted | About::Unenrolled | About::Contests | About::Zeros)
 }
 
-/// The stored boards, too, are to find mistakes about who closed a ballot, about openings, about the roll and about
-/// contest sets. In their comparisons a board stands on both sides, and their tables are long enough.
+/// The stored boards, too, are to find mistakes about who closed a ballot, about openings, about the roll, about
+/// contest sets, and about curves. In their comparisons a board stands on both sides, and their tables are long enough.
 fn stored_boards_find(options: &Options) {
     let wanted = |mistake: Mistake| match mistake.about() {
         About::Closed | About::Accepted | About::Refused | About::Unenrolled | About::Order => true,
-        About::Width | About::Contests => true,
+        About::Width | About::Contests | About::Curve | About::Zeros | About::End => true,
         About::BadRoll => mistake != Mistake::RollBeforeLengths,
         _ => false,
     };
     find("the stored boards", wanted, || options.boards.iter().all(|folder| check_folder(folder, None).is_ok()));
+}
+
+/// The stored comparisons are to find mistakes that take two boards, with different layouts or rolls.
+fn stored_comparisons_find(options: &Options) {
+    let Some(folder) = &options.comparisons else { return };
+    let wanted = |mistake: Mistake| matches!(mistake.about(), About::TwoLayouts | About::OtherRoll);
+    find("the stored comparisons", wanted, || check_comparisons(folder, None).is_ok());
 }
 
 /// Boards with and without hidden items, too, are to find mistakes about these.
@@ -379,13 +430,16 @@ fn add_broken(cases: &[Case], broken: &mut [usize; PROPERTIES.len()]) {
     }
 }
 
-/// Counts the cases in which the checks find something wrong with the stand-in, by entry.
-fn differences(cases: &[Case], checks: [Check; 3]) -> [usize; 3] {
+/// Counts the cases in which the checks find something wrong with the stand-in, by entry; up to the first, where that
+/// is wanted.
+fn differences(cases: &[Case], checks: [Check; 3], wanted: [bool; 3]) -> [usize; 3] {
     let mut found = [0; 3];
     for (seed, case) in cases.iter().enumerate() {
         let (random, tally) = (&mut Random::new(seed as u64), &mut Tally::default());
         for (entry, check) in checks.iter().enumerate() {
-            found[entry] += usize::from(check(&stand_in(), case, random, tally).is_err());
+            if !wanted[entry] || found[entry] == 0 {
+                found[entry] += usize::from(check(&stand_in(), case, random, tally).is_err());
+            }
         }
     }
     found
@@ -397,14 +451,16 @@ struct Counts {
     boards: usize,
     /// Of the full boards those that fill the ballot table, other sound ones, refused ones.
     full: [usize; 3],
-    /// The sound boards that show each thing that is wanted of ballots, narrow ones and wide ones.
-    shown: [[usize; 2]; WANTED.len()],
-    /// The boards that show each thing that is wanted of rolls, and of contest sets.
-    rolls: [[usize; 2]; ROLLS_WANTED.len()],
-    sets: [usize; SETS_WANTED.len()],
+    /// The sound boards that show each thing that is wanted of ballots, by layout.
+    shown: [[usize; LAYOUTS.len()]; WANTED.len()],
+    /// The boards that show each thing that is wanted of rolls.
+    rolls: [[usize; LAYOUTS.len()]; ROLLS_WANTED.len()],
+    /// And of contest sets and of curves, by curve.
+    sets: [[usize; CURVES.len()]; SETS_WANTED.len()],
+    curves: [[usize; CURVES.len()]; CURVES_WANTED.len()],
     words: usize,
     by_number: BTreeMap<u32, usize>,
-    by_reason: BTreeMap<(String, Width), usize>,
+    by_reason: BTreeMap<(String, Layout), usize>,
     audit: Tally,
     compare: Tally,
     ancestry: Tally,
@@ -430,7 +486,7 @@ fn run_case(
     counts.boards += 1;
     counts.words += case.words.len();
     if group == Group::Faults {
-        let reason = (makers.fault(seed).reason.clone(), makers.width(seed));
+        let reason = (makers.fault(seed).reason.clone(), makers.layout(seed));
         *counts.by_reason.entry(reason).or_default() += 1;
     }
     Ok(())
@@ -444,17 +500,23 @@ fn hold_reference(case: &Case, group: Group, counts: &mut Counts) -> Result<(), 
         let filled = check_full(case)?;
         counts.full[if filled { 0 } else { 1 + usize::from(number != 0) }] += 1;
     }
-    let width = Width::of(&case.words) as usize;
-    for (times, is_shown) in counts.shown.iter_mut().zip(shown(case)) {
-        times[width] += usize::from(is_shown);
-    }
-    for (times, is_shown) in counts.rolls.iter_mut().zip(shown_of_roll(case, number)) {
-        times[width] += usize::from(is_shown);
-    }
-    for (times, is_shown) in counts.sets.iter_mut().zip(shown_of_sets(case, number, items)) {
-        *times += usize::from(is_shown);
-    }
+    let layout = Layout::of(&case.words);
+    add_shown(&mut counts.shown, shown(case), layout.traits() as usize);
+    add_shown(&mut counts.rolls, shown_of_roll(case, number), layout.traits() as usize);
+    add_shown(&mut counts.sets, shown_of_sets(case, number, items), layout.curve as usize);
+    add_shown(&mut counts.curves, shown_of_curve(case, number, items), layout.curve as usize);
     Ok(())
+}
+
+/// Counts what a board shows under its layout or curve.
+fn add_shown<const WAYS: usize, const WANTED: usize>(
+    counts: &mut [[usize; WAYS]; WANTED],
+    shown: [bool; WANTED],
+    way: usize,
+) {
+    for (times, is_shown) in counts.iter_mut().zip(shown) {
+        times[way] += usize::from(is_shown);
+    }
 }
 
 /// Whether every entry says of a case what the reference does, and leaves the boards as they are.
@@ -510,10 +572,10 @@ fn rolls_of_each_length(with: Option<Interface>) {
 fn shares(cases: u64) -> Vec<(Group, u64)> {
     let part = |percent: u64| cases * percent / 100;
     vec![
-        (Group::Long, 48.min(cases)),
+        (Group::Long, 72.min(cases)),
         (Group::Full, 48.min(cases)),
-        (Group::Ballots, 18.min(cases)),
-        (Group::Contests, 80.min(cases)),
+        (Group::Ballots, 42.min(cases)),
+        (Group::Contests, 90.min(cases)),
         (Group::Sound, part(15)),
         (Group::Faults, part(40)),
         (Group::Order, part(15)),
@@ -579,27 +641,28 @@ fn print_reference(options: &Options, total: &Counts, seconds: f64) {
     let least = total.by_reason.values().min().copied().unwrap_or(0);
     let ways = Makers::default().faults.len();
     let (made, wanted) = (total.by_reason.len(), reasons());
-    println!("           by reason   {ways} ways; with their widths {made} of {wanted}, each at least {least} times");
+    println!("           by reason   {ways} ways; with their layouts {made} of {wanted}, each at least {least} times");
     let [filled, fewer, refused] = total.full;
     println!(
         "           full        {filled} with {FULL} counted ballots fill a table of {FULL_TABLE} words, \
          {fewer} count fewer, {refused} are refused"
     );
-    let each = |[narrow, wide]: [usize; 2]| format!("{narrow} + {wide}");
-    print_shown("ballots", WANTED.iter().map(|(what, _)| *what).zip(total.shown.map(each)));
-    print_shown("rolls", ROLLS_WANTED.iter().map(|(what, _)| *what).zip(total.rolls.map(each)));
-    print_shown("sets", SETS_WANTED.iter().map(|(what, _)| *what).zip(total.sets.map(|times| times.to_string())));
+    print_shown("ballots", WANTED.iter().map(|(what, _)| *what).zip(&total.shown));
+    print_shown("rolls", ROLLS_WANTED.iter().map(|(what, _)| *what).zip(&total.rolls));
+    print_shown("sets", SETS_WANTED.iter().map(|(what, _)| *what).zip(&total.sets));
+    print_shown("curves", CURVES_WANTED.iter().map(|(what, _)| *what).zip(&total.curves));
 }
 
-/// How many ways there are to be refused, or to pass, those at two widths counted twice.
+/// How many ways there are to be refused, or to pass, each counted in every layout that has a place for it.
 fn reasons() -> usize {
-    Makers::default().faults.iter().map(|fault| if fault.width.is_some() { 1 } else { 2 }).sum()
+    Makers::default().faults.iter().map(|fault| fault.layouts.len()).sum()
 }
 
-/// How many boards show each thing that is wanted; narrow ones and wide ones where it is to be shown by both.
-fn print_shown(title: &str, shown: impl Iterator<Item = (&'static str, String)>) {
+/// How many boards of each layout, or on each curve, show each thing that is wanted.
+fn print_shown<'a, const WAYS: usize>(title: &str, shown: impl Iterator<Item = (&'static str, &'a [usize; WAYS])>) {
     for (at, (what, times)) in shown.enumerate() {
         let title = if at == 0 { title } else { "" };
+        let times = times.map(|times| times.to_string()).join(" + ");
         println!("           {title:<11} {times} boards: {what}");
     }
 }
@@ -610,12 +673,17 @@ fn all_made(total: &Counts) -> bool {
     let refusals = [1].into_iter().chain(3..=16).chain([18, 20, 21]).all(|n| total.by_number.contains_key(&n));
     let reasons = total.by_reason.len() >= reasons();
     let [filled, fewer, refused] = total.full;
-    let at_both =
-        |what: &str, [narrow, wide]: [usize; 2]| narrow + wide >= 5 && narrow >= 1 && (wide >= 1 || what == BLANK);
-    let ballots = WANTED.iter().zip(total.shown).all(|((what, _), times)| at_both(what, times));
-    let rolls = ROLLS_WANTED.iter().zip(total.rolls).all(|((what, _), times)| at_both(what, times));
-    let sets = total.sets.iter().all(|&times| times >= 5);
-    refusals && reasons && ballots && rolls && sets && filled >= 5 && fewer >= 5 && refused >= 10
+    let ballots = WANTED.iter().zip(&total.shown).all(|(_, times)| everywhere(times));
+    let rolls = ROLLS_WANTED.iter().zip(&total.rolls).all(|((what, _), times)| *what == BLANK || everywhere(times));
+    let on_one = |what: &str, times: &[usize]| ON_SECP256R1.contains(&what) && times[0] >= 5;
+    let sets = SETS_WANTED.iter().zip(&total.sets).all(|((what, _), times)| on_one(what, times) || everywhere(times));
+    let curves = total.curves.iter().all(|times| everywhere(times));
+    refusals && reasons && ballots && rolls && sets && curves && filled >= 5 && fewer >= 5 && refused >= 10
+}
+
+/// Whether there are boards of each layout, or on each curve, and some together.
+fn everywhere(times: &[usize]) -> bool {
+    !times.contains(&0) && times.iter().sum::<usize>() >= 5
 }
 
 /// What each of the library's entries was held to, or that it has no such entry.
@@ -651,10 +719,12 @@ fn told(tally: &Tally) -> String {
 fn merge(total: &mut Counts, part: Counts) {
     total.boards += part.boards;
     total.words += part.words;
-    let by_width = total.shown.iter_mut().chain(&mut total.rolls).flatten();
-    let totals = total.full.iter_mut().chain(&mut total.sets).chain(by_width);
-    let of_part = part.shown.into_iter().chain(part.rolls).flatten();
-    for (a, b) in totals.zip(part.full.into_iter().chain(part.sets).chain(of_part)) {
+    let by_layout = total.shown.iter_mut().chain(&mut total.rolls).flatten();
+    let by_curve = total.sets.iter_mut().chain(&mut total.curves).flatten();
+    let totals = total.full.iter_mut().chain(by_layout).chain(by_curve);
+    let part_by_layout = part.shown.into_iter().chain(part.rolls).flatten();
+    let part_by_curve = part.sets.into_iter().chain(part.curves).flatten();
+    for (a, b) in totals.zip(part.full.into_iter().chain(part_by_layout).chain(part_by_curve)) {
         *a += b;
     }
     for (number, count) in part.by_number {
@@ -778,7 +848,7 @@ fn most_ballots(seed: u64) -> [Vec<u8>; 3] {
     let random = &mut Random::new(seed);
     let mut plan = crowded(random, shape).plan;
     plan.roll = full_around(&voters_of(&plan.items), random);
-    let laid = plan.lay(sha256);
+    let laid = plan.lay();
     let [board, verdicts, roll] = [&laid.words, &laid.verdicts, &laid.roll].map(|words| bytes(words));
     let printed = program(&board, &verdicts, &roll);
     if !printed.starts_with("accepted 300 300 59 ") || printed.lines().count() != 1 + 59 {
@@ -790,8 +860,10 @@ fn most_ballots(seed: u64) -> [Vec<u8>; 3] {
 /// The files of a board with all 256 contests and a ballot of all of them, which the program has room for.
 fn all_on_a_ballot(seed: u64) -> [Vec<u8>; 3] {
     let mut random = Random::new(seed);
+    // On a larger curve so many contests do not fit into a board of the program.
+    let wide = Layout { curve: Curve::Secp256r1, sets: Width::Wide };
     let laid = loop {
-        let laid = all_contests(&mut random, 1, Traits::Wide).plan.lay(sha256);
+        let laid = all_contests(&mut random, 1, Traits::Said(wide)).plan.lay();
         if laid.words.len() <= PROGRAM_WORDS {
             break laid;
         }

@@ -2,7 +2,7 @@
 
 use reference::faults::counted;
 use reference::format::*;
-use reference::plan::{Laid, Plan};
+use reference::plan::{Laid, Plan, Spec};
 use reference::program::{bytes, program};
 use reference::random::Random;
 use reference::roll::{pairs_of, roll_of, voters_of};
@@ -16,12 +16,12 @@ fn main() {
     let folder = Path::new(&folder);
     let mut made = election();
     made.plan.roll = roll(&made);
-    let laid = made.plan.lay(sha256);
+    let laid = made.plan.lay();
     write(folder, "election", &laid);
 
     let mut genesis = Plan::new(made.plan.items[..1].to_vec(), Vec::new());
     genesis.items[0].time = 1_790_000_000_000;
-    write(folder, "genesis-alone", &genesis.lay(sha256));
+    write(folder, "genesis-alone", &genesis.lay());
 
     // One bit of a counted ballot's first cryptogram.
     let ballot = counted_ballot(&made);
@@ -36,11 +36,11 @@ fn main() {
         made.plan.items[i].code == SESSION && eight(&made.plan.items[i].content, 2) != made.plan.items[cast].key
     });
     plan.items[cast].key = eight(&made.plan.items[other].content, 2);
-    write(folder, "wrong-key", &plan.lay(sha256));
+    write(folder, "wrong-key", &plan.lay());
 
     // A cast taken out of the file, and nothing else changed but the closing word and verdicts.
     let mut words = laid.words.clone();
-    words.drain(laid.places[cast]..laid.places[cast] + FRAME);
+    words.drain(laid.places[cast]..laid.places[cast] + made.layout.curve.frame());
     *words.last_mut().expect("a closing word") -= 1;
     let mut verdicts = laid.verdicts.clone();
     verdicts.drain(cast * VERDICT_WORDS..(cast + 1) * VERDICT_WORDS);
@@ -52,7 +52,7 @@ fn main() {
 
     // The opened ballot is cast, not spoiled, and extracted with the others.
     let opened = first_opened(&made).expect("the election has an opening");
-    write(folder, "opening-beside-cast", &with_cast_for_spoil(&made, &opened).plan.lay(sha256));
+    write(folder, "opening-beside-cast", &with_cast_for_spoil(&made, &opened).plan.lay());
 
     // The spoil stands just behind the opening; no time goes backward.
     let Opened { opening, spoil, .. } = opened;
@@ -62,34 +62,68 @@ fn main() {
     moved.time = before.iter().rev().find(|s| s.kind == MAIN).expect("a genesis").time;
     plan.insert(opening + 1, moved);
     plan.remove(spoil, 0);
-    write(folder, "opening-before-spoil", &plan.lay(sha256));
+    write(folder, "opening-before-spoil", &plan.lay());
 
     write_about_roll(folder, &made);
-    write(folder, "federation", &federation().plan.lay(sha256));
+    for (name, made) in [("federation", federation()), ("county", county()), ("nation", nation())] {
+        write(folder, name, &made.plan.lay());
+    }
 }
 
-/// An election of forty contests, some with numbers above 31, and several rounds. Ballots have contests in more than
-/// one word of their set, and one is opened.
+/// An election on secp256r1 of forty contests, some with numbers above 31, and several rounds. Ballots have contests in
+/// more than one word of their set, and one is opened.
 fn federation() -> Made {
+    let layout = Layout { curve: Curve::Secp256r1, sets: Width::Wide };
+    let shape = Shape { items: 130, words: None, long: 20, voters: 6, extraction: true };
+    first_made(shape, layout, |made| contests(made) == 40 && rounds(made) >= 3 && in_several_words(made) >= 3)
+}
+
+/// An election on secp384r1, of contests below 32.
+fn county() -> Made {
+    let layout = Layout { curve: Curve::Secp384r1, sets: Width::Narrow };
+    let shape = Shape { items: 60, words: None, long: 0, voters: 5, extraction: true };
+    first_made(shape, layout, |made| contests(made) >= 3 && rounds(made) >= 2)
+}
+
+/// One on secp521r1, of contests up to 255.
+fn nation() -> Made {
+    let layout = Layout { curve: Curve::Secp521r1, sets: Width::Wide };
+    let shape = Shape { items: 80, words: None, long: 5, voters: 5, extraction: true };
+    first_made(shape, layout, |made| contests(made) >= 12 && rounds(made) >= 2 && in_several_words(made) >= 2)
+}
+
+/// The first board of a layout that fits, of these years, with small numbers, three counted ballots or more, one that is
+/// opened, and an extraction that is confirmed. Just its voters are on the roll.
+fn first_made(shape: Shape, layout: Layout, fits: fn(&Made) -> bool) -> Made {
     for seed in 1.. {
-        let shape = Shape { items: 130, words: None, long: 20, voters: 6, extraction: true };
-        let mut made = make_with(&mut Random::new(seed), sha256, shape, Traits::Wide);
-        let has = |code: u32| made.plan.items.iter().filter(move |s| s.code == code);
-        let contests = has(CONTEST).fold(Set::EMPTY, |set, s| set | Set::one(s.content[0]));
-        let several_words = has(BALLOT).filter(|s| {
-            let set = made.width.set(BALLOT, &s.content);
-            !set.first_word().is_empty() && !set.later_words().is_empty()
-        });
+        let mut made = make_with(&mut Random::new(seed), shape, Traits::Said(layout));
         let small_weights = made.expected.ballots.iter().all(|row| row[2] < 10 && row[1] < 1000);
         let year_2026 = made.plan.items[0].time > 1_700_000_000_000;
-        let whole = has(SERVER_OPENING).count() > 0 && has(CONFIRMATION).count() > 0 && has(ROUND).count() >= 3;
-        let fits = whole && contests.count() == 40 && several_words.count() >= 3;
-        if fits && small_weights && year_2026 && made.expected.ballots.len() >= 3 {
+        let whole = items_of(&made, SERVER_OPENING).count() > 0 && items_of(&made, CONFIRMATION).count() > 0;
+        if whole && fits(&made) && small_weights && year_2026 && made.expected.ballots.len() >= 3 {
             made.plan.roll = roll_of(voters_of(&made.plan.items));
             return made;
         }
     }
     unreachable!()
+}
+
+fn items_of(made: &Made, code: u32) -> impl Iterator<Item = &Spec> {
+    made.plan.items.iter().filter(move |s| s.code == code)
+}
+
+fn contests(made: &Made) -> usize {
+    items_of(made, CONTEST).fold(Set::EMPTY, |set, s| set | Set::one(s.content[0])).count()
+}
+
+fn rounds(made: &Made) -> usize {
+    items_of(made, ROUND).count()
+}
+
+/// How many ballots have contests below 32, and others.
+fn in_several_words(made: &Made) -> usize {
+    let sets = items_of(made, BALLOT).map(|s| made.layout.sets.set(BALLOT, &s.content));
+    sets.filter(|set| !set.first_word().is_empty() && !set.later_words().is_empty()).count()
 }
 
 /// Writes the samples with a bad roll, or with a session that is not on it.
@@ -100,19 +134,19 @@ fn write_about_roll(folder: &Path, made: &Made) {
     let mut pairs = pairs_of(&plan.roll);
     pairs.remove(&voter);
     plan.roll = roll_of(pairs);
-    write(folder, "not-on-roll", &plan.lay(sha256));
+    write(folder, "not-on-roll", &plan.lay());
 
     // The same voter has a session with one vote more than the roll gives.
     let mut plan = made.plan.clone();
     let session = position(made, |i| made.plan.items[i].code == SESSION && made.plan.items[i].content[0] == voter);
     plan.items[session].content[1] += 1;
-    write(folder, "other-weight", &plan.lay(sha256));
+    write(folder, "other-weight", &plan.lay());
 
     // Two pairs of the roll are in each other's place.
     let mut plan = made.plan.clone();
     let middle = plan.roll.len() / 2 / ROLL_ROW * ROLL_ROW;
     plan.roll[middle - ROLL_ROW..middle + ROLL_ROW].rotate_left(ROLL_ROW);
-    write(folder, "roll-not-rising", &plan.lay(sha256));
+    write(folder, "roll-not-rising", &plan.lay());
 }
 
 /// The election's roll: those who vote, and four who do not, one of them without a vote.
@@ -130,7 +164,7 @@ fn roll(made: &Made) -> Vec<u32> {
 fn election() -> Made {
     for seed in 1.. {
         let shape = Shape { items: 48, words: None, long: 0, voters: 5, extraction: true };
-        let made = make(&mut Random::new(seed), sha256, shape);
+        let made = make(&mut Random::new(seed), shape);
         let has = |code: u32| made.plan.items.iter().filter(|s| s.code == code).count();
         let casts = has(CAST);
         let recast = casts > made.expected.ballots.len();

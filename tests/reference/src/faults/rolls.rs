@@ -387,7 +387,7 @@ fn also_missing(change: Change) -> Change {
 fn missing_and_torn(made: &Made, _: u32, random: &mut Random) -> Change {
     let at = pick(made, SESSION, random)?;
     let mut plan = made.plan.clone();
-    plan.cut = Some((at, random.between(3, items(made)[at].content.len() + FRAME - 1)));
+    plan.cut = Some((at, random.between(3, items(made)[at].content.len() + frame(made) - 1)));
     also_missing(Some((plan, at)))
 }
 fn missing_and_stranger(made: &Made, _: u32, random: &mut Random) -> Change {
@@ -558,8 +558,6 @@ fn other_weights_around(made: &Made, _: u32, _: &mut Random) -> Change {
 
 // ---- the lists ----
 
-type Way = (u32, &'static str, fn(&Made, u32, &mut Random) -> Change);
-
 /// Sessions that are not on the roll, also with another fault.
 const UNENROLLED: &[Way] = &[
     (21, "empty roll", empty_roll),
@@ -619,7 +617,7 @@ fn listed(ways: &[Way]) -> impl Iterator<Item = Fault> + '_ {
     ways.iter().map(|&(number, reason, change)| Fault {
         number,
         reason: format!("{number}/roll, {reason}"),
-        width: None,
+        layouts: LAYOUTS.to_vec(),
         all_contests: false,
         code: 0,
         change,
@@ -634,7 +632,7 @@ fn unenrolled_faults() -> Vec<Fault> {
 pub fn roll_faults() -> Vec<Fault> {
     let mut list: Vec<Fault> = Vec::new();
     let mut bad = |reason: String, code: u32, change: fn(&Made, u32, &mut Random) -> Change| {
-        list.push(Fault { number: 20, reason, width: None, all_contests: false, code, change });
+        list.push(Fault { number: 20, reason, layouts: LAYOUTS.to_vec(), all_contests: false, code, change });
     };
     for (way, (reason, _)) in BAD.iter().enumerate() {
         bad(format!("20/roll, {reason}"), way as u32, bad_roll_alone);

@@ -6,24 +6,26 @@ use super::*;
 // ---- traits ----
 
 /// The board with this traits word, or with none.
-fn with_traits(made: &Made, traits: Option<u32>) -> Plan {
+pub fn with_traits(made: &Made, traits: Option<u32>) -> Plan {
     let mut plan = made.plan.clone();
     plan.items[0].content.truncate(PLAIN_GENESIS);
     plan.items[0].content.extend(traits);
     plan
 }
 
-/// Any traits that are not known.
-fn unknown(random: &mut Random) -> u32 {
-    let any = random.word() | 1 << random.between(1, 31);
-    let one = 1 << random.between(1, 31) | random.between(0, 1) as u32;
-    *random.pick(&[2, 3, u32::MAX, any, one])
+/// The lowest trait that is not known.
+const FIRST_UNKNOWN: u32 = 3;
+
+/// Any traits that are not known. A curve with the number 3 is one of them.
+pub fn unknown(random: &mut Random) -> u32 {
+    let any = random.word() | 1 << random.between(FIRST_UNKNOWN as usize, 31);
+    let one = 1 << random.between(FIRST_UNKNOWN as usize, 31) | random.below(8) as u32;
+    *random.pick(&[CURVE_BITS, CURVE_BITS | WIDE_SETS, u32::MAX, any, one])
 }
 
-/// One trait that is not known: alone on a narrow board, beside bit 0 on a wide one.
+/// One trait that is not known, beside those of the board.
 fn unknown_trait(made: &Made, bit: u32, _: &mut Random) -> Change {
-    let known = if made.width == Width::Wide { WIDE_SETS } else { 0 };
-    Some((with_traits(made, Some(1 << bit | known)), 0))
+    Some((with_traits(made, Some(1 << bit | made.layout.traits())), 0))
 }
 fn all_traits(made: &Made, _: u32, _: &mut Random) -> Change {
     Some((with_traits(made, Some(u32::MAX)), 0))
@@ -37,10 +39,10 @@ fn unknown_traits_and(made: &Made, number: u32, random: &mut Random) -> Change {
     let mut plan = with_traits(made, Some(unknown(random)));
     let genesis = &mut plan.items[0];
     match number {
-        4 => plan.cut = Some((0, random.between(1, TRAITS_PLACE + FRAME - 1))),
-        7 => genesis.address = Address::Flipped(random.below(256)),
-        8 => genesis.previous = Previous::Words(random.eight()),
-        9 => genesis.parent = Link::Words(random.eight()),
+        4 => plan.cut = Some((0, random.between(1, TRAITS_PLACE + Layout::PLAIN.curve.frame() - 1))),
+        7 => genesis.address = Address::Flipped(random.below(32 * Layout::PLAIN.curve.widths().address)),
+        8 => genesis.previous = Previous::Words(random.digest()),
+        9 => genesis.parent = Link::Words(random.digest()),
         14 => genesis.verdict = 0,
         15 => genesis.key = random.eight(),
         16 => genesis.verdict = VERDICT << 28,
@@ -50,14 +52,16 @@ fn unknown_traits_and(made: &Made, number: u32, random: &mut Random) -> Change {
     Some((plan, 0))
 }
 
-/// The board ends before the traits word.
-fn cut_before_traits(made: &Made, _: u32, _: &mut Random) -> Change {
-    let mut plan = with_traits(made, Some(WIDE_SETS));
-    plan.cut = Some((0, TRAITS_PLACE));
+/// The board ends before the traits word, mostly just before it.
+fn cut_before_traits(made: &Made, _: u32, random: &mut Random) -> Change {
+    let mut plan = with_traits(made, Some(made.layout.traits()));
+    let length = random.between(1, TRAITS_PLACE);
+    plan.cut = Some((0, *random.pick(&[length, TRAITS_PLACE, TRAITS_PLACE])));
     Some((plan, 0))
 }
 fn cut_behind_traits(made: &Made, _: u32, random: &mut Random) -> Change {
-    let mut plan = with_traits(made, Some(random.below(4) as u32));
+    let any = random.below(16) as u32;
+    let mut plan = with_traits(made, Some(*random.pick(&[any, made.layout.traits()])));
     plan.cut = Some((0, TRAITS_PLACE + 1));
     Some((plan, 0))
 }
@@ -67,13 +71,13 @@ fn genesis_too_short(made: &Made, _: u32, _: &mut Random) -> Change {
     change_item(made, 0, |s| s.content.truncate(PLAIN_GENESIS - 1))
 }
 fn genesis_too_long(made: &Made, _: u32, random: &mut Random) -> Change {
-    let mut plan = with_traits(made, Some(random.below(2) as u32));
-    plan.items[0].content.push(*random.pick(&[0, 1]));
+    let mut plan = with_traits(made, Some(random.below(6) as u32));
+    plan.items[0].content.push(random.below(6) as u32);
     Some((plan, 0))
 }
 
 /// A second genesis with these traits.
-fn later_genesis(made: &Made, traits: Option<u32>, random: &mut Random) -> Change {
+pub fn later_genesis(made: &Made, traits: Option<u32>, random: &mut Random) -> Change {
     let at = config_position(made, 1, random)?;
     let mut content = items(made)[0].content[..PLAIN_GENESIS].to_vec();
     content.extend(traits);
@@ -81,10 +85,7 @@ fn later_genesis(made: &Made, traits: Option<u32>, random: &mut Random) -> Chang
 }
 /// It says that sets are of the other width.
 fn later_genesis_other_width(made: &Made, _: u32, random: &mut Random) -> Change {
-    let traits = match made.width {
-        Width::Narrow => Some(WIDE_SETS),
-        Width::Wide => *random.pick(&[None, Some(0)]),
-    };
+    let traits = Some(other_width(made).traits());
     // Rounds before it, which are of this board's width.
     let (plan, at) = later_genesis(made, traits, random)?;
     plan.items[..at].iter().any(|s| s.code == ROUND).then_some((plan, at))
@@ -94,7 +95,7 @@ fn later_genesis_unknown_traits(made: &Made, _: u32, random: &mut Random) -> Cha
     later_genesis(made, Some(traits), random)
 }
 fn later_genesis_misfit(made: &Made, _: u32, random: &mut Random) -> Change {
-    let (mut plan, at) = later_genesis(made, Some(WIDE_SETS), random)?;
+    let (mut plan, at) = later_genesis(made, Some(made.layout.traits()), random)?;
     let length = *random.pick(&[PLAIN_GENESIS - 1, PLAIN_GENESIS + 2]);
     plan.items[at].content.resize(length, 1);
     Some((plan, at))
@@ -111,11 +112,12 @@ fn first_wide_contest(made: &Made) -> Option<usize> {
 }
 /// A narrow board that says it is wide.
 fn narrow_said_wide(made: &Made, _: u32, _: &mut Random) -> Change {
-    Some((with_traits(made, Some(WIDE_SETS)), first_set(made)?))
+    Some((with_traits(made, Some(other_width(made).traits())), first_set(made)?))
 }
 /// A wide board that does not say so, in either way.
 fn unsaid(made: &Made, random: &mut Random) -> Plan {
-    with_traits(made, *random.pick(&[None, Some(0)]))
+    let said = Some(other_width(made).traits());
+    with_traits(made, if made.layout.curve == Layout::PLAIN.curve { *random.pick(&[None, said]) } else { said })
 }
 fn wide_unsaid_round(made: &Made, _: u32, random: &mut Random) -> Change {
     let at = first_set(made)?;
@@ -130,38 +132,40 @@ fn wide_unsaid_contest(made: &Made, _: u32, random: &mut Random) -> Change {
 
 // ---- counts ----
 
-fn other_width(width: Width) -> Width {
-    match width {
+/// The board's layout with sets of the other width.
+fn other_width(made: &Made) -> Layout {
+    let sets = match made.layout.sets {
         Width::Narrow => Width::Wide,
         Width::Wide => Width::Narrow,
-    }
+    };
+    Layout { sets, ..made.layout }
 }
 
 /// An item with a set of the other width, of which the first word is the same.
 fn set_of_other_width(made: &Made, code: u32, random: &mut Random) -> Change {
     let at = pick(made, code, random)?;
-    let (place, set) = (made.width.set_place(code), set_of(made, at));
+    let (place, set) = (made.layout.sets.set_place(code), set_of(made, at));
     change_item(made, at, |s| {
-        s.content.splice(place, set.words(other_width(made.width)).to_vec());
+        s.content.splice(place, set.words(other_width(made).sets).to_vec());
     })
 }
 
 /// A ballot with so many cryptograms, whatever its set.
 fn with_cryptograms(made: &Made, k: usize, random: &mut Random) -> Change {
     let at = pick(made, BALLOT, random)?;
-    let length = made.width.words() + CRYPTOGRAM * k;
+    let length = made.layout.sets.words() + widths(made).cryptogram * k;
     change_item(made, at, |s| s.content.resize(length, 0))
 }
 fn no_cryptogram(made: &Made, _: u32, random: &mut Random) -> Change {
     with_cryptograms(made, 0, random)
 }
 fn a_cryptogram_over_all(made: &Made, _: u32, random: &mut Random) -> Change {
-    with_cryptograms(made, made.width.contests() as usize + 1, random)
+    with_cryptograms(made, made.layout.sets.contests() as usize + 1, random)
 }
 /// As many as there can be, for a set with fewer.
 fn most_cryptograms(made: &Made, _: u32, random: &mut Random) -> Change {
-    let (plan, at) = with_cryptograms(made, made.width.contests() as usize, random)?;
-    (set_of(made, at) != Set::all(made.width)).then_some((plan, at))
+    let (plan, at) = with_cryptograms(made, made.layout.sets.contests() as usize, random)?;
+    (set_of(made, at) != Set::all(made.layout.sets)).then_some((plan, at))
 }
 
 /// A confirmation whose trustees are a set of eight words.
@@ -177,7 +181,7 @@ fn first_is_wide(made: &Made, code: u32, random: &mut Random) -> Change {
     let content = match code {
         ROUND => round_content(Width::Wide, 1, set, 0, u64::MAX),
         SESSION => [&[7, 1], &[0; SESSION_SET - 2][..], set.words(Width::Wide)].concat(),
-        _ => [set.words(Width::Wide), &[0; CRYPTOGRAM]].concat(),
+        _ => [set.words(Width::Wide), &[0; 17]].concat(),
     };
     let mut spec = new_item(made, code, 0, Link::Zeros, content, administrator(made));
     match TRAITS_PLACE.checked_sub(1 + spec.content.len()) {
@@ -190,7 +194,7 @@ fn first_is_wide(made: &Made, code: u32, random: &mut Random) -> Change {
 // ---- contests ----
 
 fn first_number_too_many(made: &Made, _: u32, random: &mut Random) -> Change {
-    change_content(made, CONTEST, random, |c, _| c[0] = made.width.contests())
+    change_content(made, CONTEST, random, |c, _| c[0] = made.layout.sets.contests())
 }
 
 /// The contests of a set's later words that are not among these, though another word has the same bit.
@@ -249,7 +253,7 @@ fn hidden_not_enabled(made: &Made, _: u32, random: &mut Random) -> Change {
 fn counted_in(made: &Made, random: &mut Random, counted: fn(&Set) -> Set) -> Change {
     let is_part = |set: Set| !counted(&set).is_empty() && counted(&set) != set;
     let at = pick_where(made, random, |i, s| s.code == BALLOT && is_part(set_of(made, i)))?;
-    let length = made.width.words() + CRYPTOGRAM * counted(&set_of(made, at)).count();
+    let length = made.layout.sets.words() + widths(made).cryptogram * counted(&set_of(made, at)).count();
     change_item(made, at, |s| s.content.truncate(length))
 }
 fn counted_in_first_word(made: &Made, _: u32, random: &mut Random) -> Change {
@@ -284,8 +288,8 @@ fn near_last_of_256_bits(made: &Made, _: u32, random: &mut Random) -> Change {
 
 // ---- boards that are sound ----
 
-/// A narrow board with a traits word of 0 or, where it had that, with none.
-fn other_narrow_traits(made: &Made, _: u32, _: &mut Random) -> Change {
+/// A board of the plain layout with a traits word of 0 or, where it had that, with none.
+fn other_plain_traits(made: &Made, _: u32, _: &mut Random) -> Change {
     let plain = items(made)[0].content.len() == PLAIN_GENESIS;
     Some((with_traits(made, plain.then_some(0)), items(made).len()))
 }
@@ -293,13 +297,11 @@ fn other_narrow_traits(made: &Made, _: u32, _: &mut Random) -> Change {
 fn wide_without_sets(made: &Made, _: u32, _: &mut Random) -> Change {
     match first_set(made) {
         Some(_) => None,
-        None => Some((with_traits(made, Some(WIDE_SETS)), items(made).len())),
+        None => Some((with_traits(made, Some(other_width(made).traits())), items(made).len())),
     }
 }
 
 // ---- the lists ----
-
-type Way = (u32, &'static str, fn(&Made, u32, &mut Random) -> Change);
 
 /// On boards of both widths.
 const BOTH: &[Way] = &[
@@ -319,11 +321,10 @@ const BOTH: &[Way] = &[
     (13, "first contest number too many", first_number_too_many),
 ];
 
-const NARROW: &[Way] = &[
-    (6, "narrow board said to be wide", narrow_said_wide),
-    (0, "traits word of 0, or none", other_narrow_traits),
-    (0, "wide, without a set", wide_without_sets),
-];
+const NARROW: &[Way] =
+    &[(6, "narrow board said to be wide", narrow_said_wide), (0, "wide, without a set", wide_without_sets)];
+
+const PLAIN: &[Way] = &[(0, "traits word of 0, or none", other_plain_traits)];
 
 const WIDE: &[Way] = &[
     (6, "wide board not said to be, a round", wide_unsaid_round),
@@ -345,10 +346,10 @@ const ALL_CONTESTS: &[Way] = &[
 
 /// Each trait that is not known, by itself.
 fn trait_faults() -> impl Iterator<Item = Fault> {
-    (1..32).map(|bit| Fault {
+    (FIRST_UNKNOWN..32).map(|bit| Fault {
         number: 13,
         reason: format!("13/trait, bit {bit}"),
-        width: None,
+        layouts: LAYOUTS.to_vec(),
         all_contests: false,
         code: bit,
         change: unknown_trait,
@@ -360,7 +361,7 @@ fn all_contests_faults() -> impl Iterator<Item = Fault> {
     ALL_CONTESTS.iter().map(|&(number, reason, change)| Fault {
         number,
         reason: format!("{number}/all contests, {reason}"),
-        width: Some(Width::Wide),
+        layouts: of_sets(Width::Wide),
         all_contests: true,
         code: 0,
         change,
@@ -370,26 +371,27 @@ fn all_contests_faults() -> impl Iterator<Item = Fault> {
 /// All that is about traits and the widths of sets.
 pub fn width_faults() -> Vec<Fault> {
     let mut list: Vec<Fault> = trait_faults().chain(all_contests_faults()).collect();
-    let mut add = |number: u32, reason: &str, width: Option<Width>, code: u32, change| {
+    let mut add = |number: u32, reason: &str, layouts: &[Layout], code: u32, change| {
         let reason = format!("{number}/width, {reason}");
-        list.push(Fault { number, reason, width, all_contests: false, code, change });
+        list.push(Fault { number, reason, layouts: layouts.to_vec(), all_contests: false, code, change });
     };
-    for (width, ways) in [(None, BOTH), (Some(Width::Narrow), NARROW), (Some(Width::Wide), WIDE)] {
+    let (narrow, wide) = (of_sets(Width::Narrow), of_sets(Width::Wide));
+    for (layouts, ways) in [(&LAYOUTS[..], BOTH), (&[Layout::PLAIN], PLAIN), (&narrow, NARROW), (&wide, WIDE)] {
         for &(number, reason, change) in ways {
-            add(number, reason, width, 0, change);
+            add(number, reason, layouts, 0, change);
         }
     }
     for also in [4, 7, 8, 9, 14, 15, 16, 18] {
         let number = if also < 13 { also } else { 13 };
-        add(number, &format!("unknown traits, and {also}"), None, also, unknown_traits_and);
+        add(number, &format!("unknown traits, and {also}"), &LAYOUTS, also, unknown_traits_and);
     }
     for code in [ROUND, SESSION, BALLOT] {
-        add(6, &format!("set of the other width, type {code}"), None, code, set_of_other_width);
-        add(6, &format!("first is type {code} with a wide set"), None, code, first_is_wide);
-        add(13, &format!("bits counted across words, type {code}"), Some(Width::Wide), code, counted_across);
+        add(6, &format!("set of the other width, type {code}"), &LAYOUTS, code, set_of_other_width);
+        add(6, &format!("first is type {code} with a wide set"), &LAYOUTS, code, first_is_wide);
+        add(13, &format!("bits counted across words, type {code}"), &wide, code, counted_across);
     }
     for code in [ROUND, SESSION] {
-        add(13, &format!("contest undefined, its bit is, type {code}"), Some(Width::Wide), code, undefined_later);
+        add(13, &format!("contest undefined, its bit is, type {code}"), &wide, code, undefined_later);
     }
     list
 }

@@ -1,4 +1,4 @@
-//! What there must be boards of with regard to traits and the widths of contest sets.
+//! What there must be boards of with regard to traits and the widths of contest sets, on each curve.
 
 use super::Items;
 use crate::audit::{audit, Board};
@@ -26,6 +26,7 @@ pub struct Sets {
     words: usize,
     traits: Option<u32>,
     width: Width,
+    curve: Curve,
     defined: Set,
     rounds: Vec<Named>,
     sessions: Vec<Named>,
@@ -76,13 +77,21 @@ pub const SETS_WANTED: [(&str, ShowsSets); 31] = [
     ("a narrow board beside a wide one", |s| s.is_narrow() && s.other == Some(Width::Wide)),
     ("a wide board beside a narrow one", |s| s.is_wide() && s.other == Some(Width::Narrow)),
     ("two wide boards", |s| s.is_wide() && s.other == Some(Width::Wide)),
-    ("13: unknown traits, bit 0 clear", |s| s.number == 13 && s.traits.is_some_and(|t| t > 1 && t % 2 == 0)),
-    ("13: unknown traits, bit 0 set", |s| s.number == 13 && s.traits.is_some_and(|t| t > 1 && t % 2 == 1)),
+    ("13: unknown traits, bit 0 clear", |s| s.number == 13 && s.has_unknown_traits() && !s.bit_0_is_set()),
+    ("13: unknown traits, bit 0 set", |s| s.number == 13 && s.has_unknown_traits() && s.bit_0_is_set()),
     ("6: a narrow set on a wide board", |s| s.is_misfit(Width::Wide)),
     ("6: a wide set on a narrow board", |s| s.is_misfit(Width::Narrow)),
     ("12: a later genesis with a traits word", |s| s.number == 12 && s.refused == TRAITS_HEAD),
     ("13: a wide ballot", |s| s.number == 13 && s.width == Width::Wide && code(s.refused) == BALLOT),
     ("13: bits of cryptogram 256", |s| s.bad_cryptograms == [256]),
+];
+
+/// What only boards that are read as on secp256r1 show.
+pub const ON_SECP256R1: [&str; 4] = [
+    "no traits word",
+    "a traits word of 0, and ballots",
+    "13: unknown traits, bit 0 clear",
+    "13: unknown traits, bit 0 set",
 ];
 
 /// In how many words a set has contests.
@@ -93,14 +102,15 @@ fn words_of(set: Set) -> usize {
 impl Sets {
     /// Of a board, what was said of it, and a board that it is compared with.
     pub fn new(words: &[u32], number: u32, items: usize, other: Board) -> Sets {
-        let width = Width::of(words);
+        let layout = Layout::of(words);
         let refused = places(words).nth(items);
         let mut sets = Sets {
             number,
             items,
             words: words.len(),
             traits: traits(words),
-            width,
+            width: layout.sets,
+            curve: layout.curve,
             defined: Set::EMPTY,
             rounds: Vec::new(),
             sessions: Vec::new(),
@@ -108,10 +118,10 @@ impl Sets {
             codes: Vec::new(),
             refused: refused.map_or(0, |place| words[place]),
             bad_cryptograms: match refused {
-                Some(place) if number == 13 => bad_cryptograms(width, &words[place..]),
+                Some(place) if number == 13 => bad_cryptograms(layout, &words[place..]),
                 _ => Vec::new(),
             },
-            other: if number == 0 { accepted_width(other) } else { None },
+            other: if number == 0 { accepted_layout(other).map(|layout| layout.sets) } else { None },
         };
         if number == 0 {
             sets.read(words);
@@ -152,6 +162,12 @@ impl Sets {
     fn accepted(&self) -> bool {
         self.number == 0
     }
+    fn has_unknown_traits(&self) -> bool {
+        self.traits.is_some_and(|traits| traits > 5)
+    }
+    fn bit_0_is_set(&self) -> bool {
+        self.traits.is_some_and(|traits| traits % 2 == 1)
+    }
     fn is_wide(&self) -> bool {
         self.accepted() && self.width == Width::Wide
     }
@@ -175,23 +191,24 @@ impl Sets {
         let other = if width == Width::Wide { Width::Narrow } else { Width::Wide };
         let (code, n) = (code(self.refused), count(self.refused));
         let has_set = matches!(code, ROUND | SESSION | BALLOT);
-        self.number == 6 && self.width == width && has_set && other.count_fits(code, n)
+        let fits_other = Layout { sets: other, curve: self.curve }.count_fits(code, n);
+        self.number == 6 && self.width == width && has_set && fits_other
     }
 }
 
 /// The numbers of the cryptograms that have low bits in the item that these words begin with, if it is a ballot.
-fn bad_cryptograms(width: Width, words: &[u32]) -> Vec<usize> {
+fn bad_cryptograms(layout: Layout, words: &[u32]) -> Vec<usize> {
     if code(words[0]) != BALLOT {
         return Vec::new();
     }
-    let cryptograms = &words[1 + width.words()..1 + count(words[0])];
-    let numbered = (1..).zip(cryptograms.chunks_exact(CRYPTOGRAM));
-    numbered.filter(|(_, words)| words[CRYPTOGRAM - 1] & 0xffff != 0).map(|(number, _)| number).collect()
+    let numbered = (1..).zip(layout.cryptograms(&words[1..1 + count(words[0])]));
+    let has_low_bits = |words: &[u32]| words.last().is_some_and(|last| last & 0xffff != 0);
+    numbered.filter(|(_, words)| has_low_bits(words)).map(|(number, _)| number).collect()
 }
 
-/// The width of a board, if it is accepted.
-fn accepted_width(board: Board) -> Option<Width> {
+/// The layout of a board, if it is accepted.
+pub fn accepted_layout(board: Board) -> Option<Layout> {
     let (mut index, mut ballots) = (vec![0; INDEX_NEED], vec![0; BALLOTS_NEED]);
     let report = audit(board.words, board.verdicts, board.roll, &mut index, &mut ballots);
-    (report.number == 0).then(|| Width::of(board.words))
+    (report.number == 0).then(|| Layout::of(board.words))
 }

@@ -1,33 +1,56 @@
 //! Mistakes about the traits word and the widths of contest sets.
 
 use super::{made, rolls, Mistake};
-use crate::audit::{Board, SetRules, SET_RULES};
+use crate::audit::{Board, LayoutRules, SetRules, LAYOUT_RULES, SET_RULES};
 use crate::calls::places;
 use crate::format::*;
+
+/// The rules about layouts, one of which a mistake about traits or sets makes wrong.
+pub fn layout_rules() -> LayoutRules {
+    let mut rules = LAYOUT_RULES;
+    match made() {
+        Some(Mistake::LaterTraits) => rules.of = layout_of_last,
+        Some(Mistake::AnyFirstHead) => {
+            rules.of = |board| {
+                let told = board.get(TRAITS_PLACE).and_then(|&traits| Layout::known(traits));
+                told.unwrap_or(Layout::PLAIN)
+            };
+        }
+        Some(Mistake::NarrowSets) => rules.of = |board| Layout { sets: Width::Narrow, ..Layout::of(board) },
+        Some(Mistake::WideByHead) => {
+            rules.of = |board| match board[0] {
+                TRAITS_HEAD => Layout { sets: Width::Wide, ..Layout::of(board) },
+                _ => Layout::of(board),
+            };
+        }
+        Some(Mistake::TraitsPass) => rules.traits_fit = |_| true,
+        Some(Mistake::TraitPasses) => rules.traits_fit = |traits| (LAYOUT_RULES.traits_fit)(traits & !(1 << 9)),
+        Some(Mistake::TraitsPassAsWide) => {
+            rules.traits_fit = |_| true;
+            rules.of = |board| match traits(board).map(Layout::known) {
+                Some(None) => Layout { sets: Width::Wide, ..Layout::PLAIN },
+                _ => Layout::of(board),
+            };
+        }
+        _ => {}
+    }
+    LayoutRules { count_fits: count_rule(), ..rules }
+}
 
 /// The rules about sets, one of which a mistake makes wrong.
 pub fn set_rules() -> SetRules {
     let mut rules = SET_RULES;
     match made() {
-        Some(Mistake::LaterTraits) => rules.width = width_of_last,
-        Some(Mistake::AnyFirstHead) => rules.width = |board| wide_if(board.get(TRAITS_PLACE) == Some(&WIDE_SETS)),
-        Some(Mistake::NarrowSets) => rules.width = |_| Width::Narrow,
-        Some(Mistake::WideByHead) => rules.width = |board| wide_if(board[0] == TRAITS_HEAD),
-        Some(Mistake::TraitsPass) => rules.traits_fit = |_| true,
-        Some(Mistake::TraitPasses) => rules.traits_fit = |traits| traits & !(WIDE_SETS | 1 << 9) == 0,
-        Some(Mistake::TraitsPassAsWide) => {
-            rules.traits_fit = |_| true;
-            rules.width = |board| wide_if(traits(board).is_some_and(|traits| traits != 0));
-        }
         Some(Mistake::BitsAcross) => rules.one = across,
         Some(Mistake::NumbersTo31) => rules.contests = |_| Width::Narrow.contests(),
         Some(Mistake::NumbersTo255) => rules.contests = |_| Width::Wide.contests(),
         Some(Mistake::TimesUnshifted) => rules.round_times = |_, content| Width::Narrow.round_times(content),
         Some(Mistake::CryptogramsOfFirstWord) => rules.cryptograms = |_, content| content[0].count_ones() as usize,
         Some(Mistake::CryptogramsUncounted) => {
-            rules.cryptograms = |width, content| (content.len() - width.words()) / CRYPTOGRAM;
+            rules.cryptograms = |layout, content| layout.cryptograms(content).len();
         }
         Some(Mistake::CryptogramsUnshifted) => rules.behind_set = |_, content| &content[1..],
+        Some(Mistake::CryptogramsUnseen) => rules.behind_set = first_cryptograms::<0>,
         Some(Mistake::FirstCryptograms) => rules.behind_set = first_cryptograms::<32>,
         Some(Mistake::CryptogramsTo200) => rules.behind_set = first_cryptograms::<200>,
         Some(Mistake::UndefinedLater) => {
@@ -39,7 +62,7 @@ pub fn set_rules() -> SetRules {
         }
         _ => {}
     }
-    SetRules { set: set_rule(), count_fits: count_rule(), ..rules }
+    SetRules { set: set_rule(), ..rules }
 }
 
 /// How sets are read: of one type the first word alone, where that is the mistake.
@@ -53,36 +76,30 @@ fn set_rule() -> fn(Width, u32, &[u32]) -> Set {
 }
 
 /// Which counts pass.
-fn count_rule() -> fn(Width, u32, usize) -> bool {
+fn count_rule() -> fn(Layout, u32, usize) -> bool {
     match made() {
-        Some(Mistake::GenesisOf17) => |width, code, n| width.count_fits(code, n) && (code != GENESIS || n == 17),
-        Some(Mistake::LongGenesis) => |width, code, n| width.count_fits(code, n) || code == GENESIS && n > 17,
-        Some(Mistake::CryptogramsTo32) => {
-            |width, code, n| width.count_fits(code, n) && (code != BALLOT || n <= width.words() + 32 * CRYPTOGRAM)
-        }
-        Some(Mistake::CryptogramsTo256) => {
-            |width, code, n| width.count_fits(code, n) || code == BALLOT && Width::Wide.count_fits(code, n + 7)
-        }
-        Some(Mistake::WideTrustees) => |width, code, n| match (width, code) {
-            (Width::Wide, CONFIRMATION) => n >= 7 && width.count_fits(code, n - 7),
-            _ => width.count_fits(code, n),
+        Some(Mistake::GenesisOf17) => |layout, code, n| layout.count_fits(code, n) && (code != GENESIS || n == 17),
+        Some(Mistake::LongGenesis) => |layout, code, n| layout.count_fits(code, n) || code == GENESIS && n > 17,
+        Some(Mistake::CryptogramsTo32) => |layout, code, n| {
+            let most = layout.sets.words() + 32 * layout.curve.widths().cryptogram;
+            layout.count_fits(code, n) && (code != BALLOT || n <= most)
         },
-        _ => SET_RULES.count_fits,
+        Some(Mistake::CryptogramsTo256) => |layout, code, n| {
+            let wide = Layout { sets: Width::Wide, ..layout };
+            layout.count_fits(code, n) || code == BALLOT && wide.count_fits(code, n + 7)
+        },
+        Some(Mistake::WideTrustees) => |layout, code, n| match (layout.sets, code) {
+            (Width::Wide, CONFIRMATION) => n >= 7 && layout.count_fits(code, n - 7),
+            _ => layout.count_fits(code, n),
+        },
+        _ => LAYOUT_RULES.count_fits,
     }
 }
 
-fn wide_if(wide: bool) -> Width {
-    if wide {
-        Width::Wide
-    } else {
-        Width::Narrow
-    }
-}
-
-/// The width by the last genesis that carries a traits word, wherever it stands.
-fn width_of_last(board: &[u32]) -> Width {
+/// The layout by the last genesis that carries a traits word, wherever it stands.
+fn layout_of_last(board: &[u32]) -> Layout {
     let last = places(board).filter(|&place| board[place] == TRAITS_HEAD).last();
-    last.map_or(Width::Narrow, |place| Width::of(&board[place..]))
+    last.map_or(Layout::PLAIN, |place| Layout::of(&board[place..]))
 }
 
 fn across(width: Width, number: u32) -> Set {
@@ -92,9 +109,9 @@ fn across(width: Width, number: u32) -> Set {
     }
 }
 
-fn first_cryptograms<const MOST: usize>(width: Width, content: &[u32]) -> &[u32] {
-    let behind = (SET_RULES.behind_set)(width, content);
-    &behind[..behind.len().min(MOST * CRYPTOGRAM)]
+fn first_cryptograms<const MOST: usize>(layout: Layout, content: &[u32]) -> &[u32] {
+    let behind = (SET_RULES.behind_set)(layout, content);
+    &behind[..behind.len().min(MOST * layout.curve.widths().cryptogram)]
 }
 
 fn first_word_of(wrong: u32, width: Width, code: u32, content: &[u32]) -> Set {
@@ -108,7 +125,7 @@ fn first_word_of(wrong: u32, width: Width, code: u32, content: &[u32]) -> Set {
 
 /// The refusal that tests in a wrong order give in place of this one.
 pub fn in_wrong_order(board: Board, number: u32, items: u32) -> u32 {
-    let unknown = items == 0 && traits(board.words).is_some_and(|traits| !(SET_RULES.traits_fit)(traits));
+    let unknown = items == 0 && traits(board.words).is_some_and(|traits| !(LAYOUT_RULES.traits_fit)(traits));
     match (made(), number) {
         (Some(Mistake::TraitsBeforeAddress), 7..=12) if unknown => 13,
         (Some(Mistake::TraitsAfterVerdict), 13) if unknown && !rolls::has_verdict(board, 0) => 14,
