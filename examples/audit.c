@@ -40,8 +40,8 @@ static uint32_t *read_words(const char *folder, const char *name, size_t *count)
 
 enum { BALLOT = 19, CAST = 20 };
 
-/* The head of a genesis that has a traits word, where that word stands on the board, and its value for wide sets of contests. */
-enum { TRAITS_HEAD = 0x10010012, TRAITS_PLACE = 18, WIDE_CONTESTS = 1 };
+/* The head of a genesis that has a traits word, and where that word stands on the board. */
+enum { TRAITS_HEAD = 0x10010012, TRAITS_PLACE = 18 };
 
 /* The row of item k, and its type, of an accepted board. */
 static const uint32_t *row_of(const uint32_t *index, uint32_t k) { return index + TIRFOLMA_INDEX_ROW_WORDS * (k - 1); }
@@ -50,10 +50,11 @@ static uint32_t type_of(const uint32_t *board, const uint32_t *index, uint32_t k
     return board[row_of(index, k)[TIRFOLMA_ROW_PLACE]] >> 16 & 0xfff;
 }
 
-/* The words of a set of contests, of an accepted board. */
-static uint32_t set_words(const uint32_t *board) {
-    return board[0] == TRAITS_HEAD && board[TRAITS_PLACE] == WIDE_CONTESTS ? 8 : 1;
-}
+/* Of an accepted board: its traits word, or 0, which means the same as none; the words of a set of contests, by bit 0; those of an address,
+   by the number of the curve in bits 1 and 2. */
+static uint32_t traits(const uint32_t *board) { return board[0] == TRAITS_HEAD ? board[TRAITS_PLACE] : 0; }
+static uint32_t set_words(const uint32_t *board) { return traits(board) & 1 ? 8 : 1; }
+static uint32_t address_words(const uint32_t *board) { return 8 + 4 * (traits(board) >> 1); }
 
 /* The contests in a set: contest j is bit j mod 32 of word j div 32. */
 static void print_contests(const uint32_t *set, uint32_t words) {
@@ -97,7 +98,7 @@ int main(int argc, char **argv) {
     uint32_t *roll = read_words(argv[1], "roll.words", &roll_words);
     if (!tirfolma_audit(board, board_words, verdicts, verdict_words, roll, roll_words, index, TIRFOLMA_INDEX_WORDS,
                         ballots, TIRFOLMA_BALLOT_WORDS, answer, TIRFOLMA_AUDIT_WORDS))
-        abort(); /* the answer has its 14 words */
+        abort(); /* the answer has its 22 words */
     free(verdicts);
 
     uint32_t number = answer[TIRFOLMA_NUMBER];
@@ -112,7 +113,7 @@ int main(int argc, char **argv) {
            answer[TIRFOLMA_ITEMS], answer[TIRFOLMA_MAINS], answer[TIRFOLMA_BALLOTS], weight);
     print_roll(roll, roll_words);
     printf("end address");
-    for (int i = 0; i < 8; i++) printf(" %08" PRIx32, answer[TIRFOLMA_END + i]);
+    for (uint32_t i = 0; i < address_words(board); i++) printf(" %08" PRIx32, answer[TIRFOLMA_END + i]);
     printf("\n");
     for (uint32_t i = 0; i < answer[TIRFOLMA_BALLOTS]; i++) {
         const uint32_t *row = ballots + TIRFOLMA_BALLOT_ROW_WORDS * i;

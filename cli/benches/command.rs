@@ -10,7 +10,6 @@ use reference::format::MAX_ITEMS;
 use reference::program::bytes;
 use reference::random::Random;
 use reference::roll::{full_around, voters_of};
-use reference::sha256::sha256;
 use reference::sound::{make, Shape};
 use std::fs;
 use std::path::{Path, PathBuf};
@@ -69,9 +68,9 @@ fn boards(folder: &Path) -> Vec<PathBuf> {
         }
         let random = &mut Random::new(seed as u64);
         let shape = Shape { items: MAX_ITEMS, words: None, long: 10, voters: MAX_ITEMS / 8, extraction: true };
-        let mut plan = make(random, sha256, shape).plan;
+        let mut plan = make(random, shape).plan;
         plan.roll = full_around(&voters_of(&plan.items), random);
-        let laid = plan.lay(sha256);
+        let laid = plan.lay();
         fs::create_dir_all(path).expect("the folder can be made");
         for (name, words) in NAMES.iter().zip([&laid.words, &laid.verdicts, &laid.roll]) {
             fs::write(path.join(name), bytes(words)).expect("the file can be written");

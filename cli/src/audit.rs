@@ -203,13 +203,14 @@ pub fn named(folder: &Path) -> Object {
 fn object(folder: &Path, answer: Answer, files: &Files, tables: &Tables, options: &Options) -> String {
     let object = match answer {
         Answer::Accepted(report) => {
-            let end: String = report.end.iter().map(|word| format!("{word:08x}")).collect();
+            let end: String = report.end().iter().map(|word| format!("{word:08x}")).collect();
             let object = named(folder)
                 .text("answer", "accepted")
                 .number("items", report.items)
                 .number("mains", report.mains)
                 .number("ballots", report.ballots)
                 .number("weight", report.weight)
+                .text("curve", report.curve.name)
                 .text("end", &end);
             let row = |[ballot, voter, weight]: [u32; 3]| {
                 Object::new().number("ballot", ballot).number("voter", voter).number("weight", weight).end()

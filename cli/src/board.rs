@@ -1,6 +1,6 @@
 //! A board's words as items, to be shown and explained. What is read here decides nothing.
 
-use crate::format::Format;
+use crate::format::{Format, Part};
 use crate::library::header::*;
 use crate::library::{self, Answer, Board, Tables};
 use crate::types::{of_code, Type};
@@ -9,14 +9,6 @@ pub const MAIN: u32 = 1;
 pub const HIDDEN: u32 = 2;
 pub const CLOSING: u32 = 15;
 
-/// The words of an item beside its content.
-pub const FRAME: usize = 43;
-/// Where the parts of an item stand, counted from the end of its content.
-pub const PARENT: usize = 0;
-pub const PREVIOUS: usize = 8;
-pub const TIME: usize = 16;
-pub const SIGNATURE: usize = 18;
-pub const ADDRESS: usize = 34;
 /// The words of a verdict.
 pub const VERDICT: usize = 9;
 
@@ -55,8 +47,9 @@ pub struct Item<'a> {
 impl<'a> Item<'a> {
     /// The item whose head stands at a place, if all its words are there.
     pub fn at(board: &'a [u32], place: usize) -> Option<Item<'a>> {
-        let length = Head(*board.get(place)?).count() + FRAME;
-        Some(Item { place, format: Format::of(board), words: board.get(place..place + length)? })
+        let format = Format::of(board);
+        let length = Head(*board.get(place)?).count() + format.frame();
+        Some(Item { place, format, words: board.get(place..place + length)? })
     }
 
     pub fn head(&self) -> Head {
@@ -68,10 +61,6 @@ impl<'a> Item<'a> {
     pub fn is_main(&self) -> bool {
         self.head().kind() == MAIN
     }
-    fn part(&self, behind_content: usize, length: usize) -> &'a [u32] {
-        let from = 1 + self.head().count() + behind_content;
-        &self.words[from..from + length]
-    }
     pub fn content(&self) -> &'a [u32] {
         &self.words[1..1 + self.head().count()]
     }
@@ -79,22 +68,26 @@ impl<'a> Item<'a> {
     pub fn content_place(&self) -> usize {
         self.place + 1
     }
-    /// Where what stands behind its content begins: the parent (`PARENT`), and so on.
-    pub fn place_behind_content(&self, behind_content: usize) -> usize {
-        self.content_place() + self.head().count() + behind_content
+    fn part(&self, part: Part) -> &'a [u32] {
+        let from = self.place_of(part) - self.place;
+        &self.words[from..from + self.format.part(part)]
+    }
+    /// Where a part behind its content begins.
+    pub fn place_of(&self, part: Part) -> usize {
+        self.content_place() + self.head().count() + self.format.before(part)
     }
     pub fn parent(&self) -> &'a [u32] {
-        self.part(PARENT, 8)
+        self.part(Part::Parent)
     }
     pub fn previous(&self) -> &'a [u32] {
-        self.part(PREVIOUS, 8)
+        self.part(Part::Previous)
     }
     /// In milliseconds.
     pub fn time(&self) -> u64 {
-        pair(self.part(TIME, 2))
+        pair(self.part(Part::Time))
     }
     pub fn address(&self) -> &'a [u32] {
-        self.part(ADDRESS, 8)
+        self.part(Part::Address)
     }
     /// The place behind its last word.
     pub fn end(&self) -> usize {

@@ -2,6 +2,7 @@
 
 use crate::args::{number, Call};
 use crate::files::Files;
+use crate::format::{Curve, Format};
 use crate::json::Object;
 use crate::library::{self, Answer, Comparison, Refusal, Tables};
 use crate::output::{about, finish, Status};
@@ -12,7 +13,8 @@ pub fn run(call: &Call) -> Result<Status, String> {
     let kept = Files::of(Path::new(&call.operands[0])).map_err(|e| about(&e))?;
     let later = Files::of(Path::new(&call.operands[1])).map_err(|e| about(&e))?;
     let (main, comparison) = compare(&kept, &later, main);
-    let text = if call.has("--json") { object(main, comparison) } else { line(comparison) };
+    let curves = [&kept, &later].map(|files| Format::of(&files.board.words).curve);
+    let text = if call.has("--json") { object(main, comparison, curves) } else { line(comparison) };
     let status = if comparison == Comparison::Same { Status::Good } else { Status::Refused };
     Ok(finish(&text, status))
 }
@@ -43,7 +45,7 @@ fn line(comparison: Comparison) -> String {
     }
 }
 
-fn object(main: Option<usize>, comparison: Comparison) -> String {
+fn object(main: Option<usize>, comparison: Comparison, curves: [&Curve; 2]) -> String {
     let answer = |answer: &str| {
         let object = Object::new().text("answer", answer);
         match main {
@@ -56,7 +58,12 @@ fn object(main: Option<usize>, comparison: Comparison) -> String {
     };
     let object = match comparison {
         Comparison::Same => answer("same"),
-        Comparison::Apart => answer("apart"),
+        Comparison::Apart => match curves {
+            [kept, later] if kept != later => {
+                answer("apart").text("kept_curve", kept.name).text("later_curve", later.name)
+            }
+            _ => answer("apart"),
+        },
         Comparison::Collision { kept, later } => {
             answer("collision").number("kept_main", kept).number("later_main", later)
         }

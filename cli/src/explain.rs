@@ -16,7 +16,7 @@ mod roll;
 mod sets;
 mod sizes;
 mod text;
-mod widths;
+pub(crate) mod widths;
 
 use crate::board::{items, Head, Item};
 use crate::files::Files;

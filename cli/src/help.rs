@@ -35,7 +35,7 @@ pub const PURPOSE: &str = "audit the bulletin boards of elections";
 pub const INTRODUCTION: &[&str] = &[
     "tirfolma reads boards from files, has the proved library audit them, and prints what it says. Whether a board is sound the library alone decides: it is proved to accept a board if and only if the board meets the published rules.",
     "DIR is a folder with board.words, verdicts.words and roll.words: 32-bit words, four bytes each, high byte first. All three must be there; a file may be empty. A byte count that is no multiple of 4 is refused as 4 at 0. A board may have 262144 words and 2048 items, a roll 2048 voters; what is more is refused as 1 or 20. Behind the word -- a name may begin with a dash.",
-    "How wide a board's sets of contests are, its own first item tells: they have eight words, for contests 0 to 255, where it is a genesis of 18 content words whose last, the traits word, is 1, and else one word, for contests 0 to 31.",
+    "On which curve a board is and how wide its sets of contests are, its own first item tells. Where that is a genesis of 18 content words, the last of them is the traits word: bit 0 gives sets of contests eight words, for contests 0 to 255, in place of one, for contests 0 to 31; bits 1 and 2 are the number of the curve, 0 for secp256r1, 1 for secp384r1 and 2 for secp521r1. A board that has no such word is on secp256r1, with sets of one word; any other bit, and the number 3, are refused as 13. By the curve an address is the SHA-256, SHA-384 or SHA-512 of the hashed words and has 8, 12 or 16 words, a signature 16, 24 or 33, a commitment 9, 13 or 17, a cryptogram 17, 25 or 34.",
 ];
 
 pub const COMMANDS: &[Command] = &[
@@ -67,7 +67,8 @@ pub const COMMANDS: &[Command] = &[
             ("folder_hex", "only where the name is not UTF-8: its bytes, in hexadecimal"),
             ("answer", "\"accepted\", \"refused\" or \"not audited\""),
             ("items, mains, ballots, weight", "of an accepted board: items, main items, counted ballots, their total weight"),
-            ("end", "of an accepted board: the address of the last main item, 64 hexadecimal digits"),
+            ("curve", "of an accepted board: the curve that it is on, \"secp256r1\", \"secp384r1\" or \"secp521r1\""),
+            ("end", "of an accepted board: the address of the last main item, 64, 96 or 128 hexadecimal digits, by the curve"),
             ("rows", "with --rows, of an accepted board: an array of objects with the keys ballot (main number), voter and weight"),
             ("number, passed", "of a refused board: the refusal, and how many items pass"),
             ("explanation", "with --explain, of a refused board: what is wrong, in words; no answer depends on it"),
@@ -83,12 +84,13 @@ pub const COMMANDS: &[Command] = &[
         about: "compare a board that was kept with a later one",
         text: &[
             "Audits the board in the folder KEPT, then that in LATER, and compares all main items of the kept board with those of the later one up to its main item MAIN; by default the kept board's number of main items.",
-            "Prints 'same' if these main items are the same; 'apart' if the kept board's end address does not stand at that item; 'collision A B' if main item A of the kept board and B of the later one have one address and different words; or 'kept refused N at K' or 'later refused N at K'. 'later refused 19' says that the later board has no main item MAIN.",
+            "Prints 'same' if these main items are the same; 'apart' if the kept board's end address does not stand at that item; 'collision A B' if main item A of the kept board and B of the later one have one address and different words; or 'kept refused N at K' or 'later refused N at K'. 'later refused 19' says that the later board has no main item MAIN. Boards on different curves have addresses of different widths, and are apart.",
         ],
         options: &[JSON, HELP],
         keys: &[
             ("answer", "\"same\", \"apart\", \"collision\" or \"refused\""),
             ("main", "MAIN, or the number that stood in for it; not there where the kept board was refused before it was known"),
+            ("kept_curve, later_curve", "of boards that are apart since they are on different curves: the curves"),
             ("kept_main, later_main", "of a collision: the main numbers of the two items"),
             ("board, number, passed", "of a refusal: \"kept\" or \"later\", the refusal, and how many items pass"),
         ],
@@ -116,13 +118,15 @@ pub const COMMANDS: &[Command] = &[
         takes: (1, 1),
         about: "show a board as a person reads it",
         text: &[
-            "Prints the auditor's answer, the traits word of a board that has one, and a line for each item: its number, main number, kind, type, time, the item numbers of its parent and its session, and for a ballot what closed it. Of a refused board, the item at which it is refused is marked by >, and what is wrong is said in words, as by audit --explain: no answer depends on it. Items after it were not audited: they are marked by ? and shown as far as their heads can be read. A - stands for what an item does not have, a ? for what the audit has not told of it.",
+            "Prints the auditor's answer, the board's traits word or that it has none, the curve, the hash and the widths by which it is read, and a line for each item: its number, main number, kind, type, time, the item numbers of its parent and its session, and for a ballot what closed it. Of a refused board, the item at which it is refused is marked by >, and what is wrong is said in words, as by audit --explain: no answer depends on it. Items after it were not audited: they are marked by ? and shown as far as their heads can be read. A - stands for what an item does not have, a ? for what the audit has not told of it.",
         ],
         options: &[JSON, HELP],
         keys: &[
             ("folder, folder_hex, answer, number, explanation", "as for audit, the explanation always"),
             ("passed", "how many items pass; of an accepted board all"),
-            ("traits", "only where the first item has a traits word: that word, which says how wide sets of contests are"),
+            ("traits", "only where the first item has a traits word: that word, which chooses the curve and the width of sets of contests"),
+            ("curve, hash", "by which the board is read: as \"secp384r1\" and \"SHA-384\"; without a traits word, and where that is refused, \"secp256r1\" and \"SHA-256\""),
+            ("widths", "the same in words: an object with the keys address, signature, commitment, cryptogram and set (of contests)"),
             ("list", "an array of objects with the keys item, main, kind, code, type, place (of the head, in words from 0), time (milliseconds), date, parent, session, closed_by, and state: \"passed\", \"refused\" or \"not audited\". null is what an item does not have, and of an item that did not pass what the audit has not told"),
         ],
     },

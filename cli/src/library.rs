@@ -5,6 +5,7 @@
 pub mod header {
     include!(concat!(env!("OUT_DIR"), "/header.rs"));
 }
+use crate::format::{Curve, Format};
 use header::*;
 
 /// A board, the verdicts on its signatures and the roll of its voters, as words.
@@ -39,8 +40,17 @@ pub struct Report {
     pub mains: u32,
     pub ballots: u32,
     pub weight: u64,
-    /// The address of the last main item.
-    pub end: [u32; 8],
+    /// The curve that the board is on.
+    pub curve: &'static Curve,
+    /// The address of the last main item, and zeros behind it.
+    end: [u32; TIRFOLMA_END_WORDS],
+}
+
+impl Report {
+    /// The address of the last main item, as wide as those of the board are.
+    pub fn end(&self) -> &[u32] {
+        &self.end[..self.curve.address]
+    }
 }
 
 /// A refusal: its number, and the items that passed.
@@ -78,7 +88,9 @@ pub fn audit(board: Board, tables: &mut Tables) -> Answer {
     }
     let end = std::array::from_fn(|i| answer[TIRFOLMA_END + i]);
     let weight = u64::from(answer[TIRFOLMA_WEIGHT_HIGH]) << 32 | u64::from(answer[TIRFOLMA_WEIGHT_LOW]);
-    Answer::Accepted(Report { items, mains: answer[TIRFOLMA_MAINS], ballots: answer[TIRFOLMA_BALLOTS], weight, end })
+    let curve = Format::of(board.words).curve;
+    let [mains, ballots] = [answer[TIRFOLMA_MAINS], answer[TIRFOLMA_BALLOTS]];
+    Answer::Accepted(Report { items, mains, ballots, weight, curve, end })
 }
 
 /// `main` is a main number of the later board.

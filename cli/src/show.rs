@@ -2,11 +2,12 @@
 
 use crate::args::Call;
 use crate::audit::{answered, named};
-use crate::board::{Head, Item, Passed, FRAME, HIDDEN, MAIN};
+use crate::board::{Head, Item, Passed, HIDDEN, MAIN};
 use crate::explain::refused::Refused;
+use crate::explain::widths::{set_words, wrong_traits};
 use crate::explain::{explain, is_about_item, reason, NOTE};
 use crate::files::Files;
-use crate::format::{traits, Format, TRAITS_PLACE, WIDE_CONTESTS};
+use crate::format::{traits, Format, Members, TRAITS_PLACE};
 use crate::help::wrapped;
 use crate::json::{array, Object};
 use crate::library::{Answer, Refusal, Tables};
@@ -165,7 +166,7 @@ fn refused(files: &Files, refusal: Refusal) -> Vec<Row> {
 
 /// The place behind an item, by its head alone.
 fn end(words: &[u32], place: usize) -> usize {
-    place + FRAME + Head(words[place]).count()
+    place + Format::of(words).frame() + Head(words[place]).count()
 }
 
 /// Whether it is an item for which the board is refused: not the sizes, the roll or the closing word.
@@ -181,7 +182,7 @@ fn item_is_wrong(files: &Files, refusal: Refusal) -> bool {
 
 fn page(folder: &Path, files: &Files, answer: Answer, rows: &[Row]) -> String {
     let mut text = format!("{}\t{}\n", shown(folder), answered(answer));
-    text += &traits(&files.board.words).map(traits_line).unwrap_or_default();
+    text += &format_lines(&files.board.words);
     text += "  item  main  kind    type               time                      parent  session  closed by\n";
     let (before, after) = rows.split_at(rows.iter().position(|row| row.state != State::Passed).unwrap_or(rows.len()));
     before.iter().for_each(|row| line(row, &mut text));
@@ -199,14 +200,30 @@ fn page(folder: &Path, files: &Files, answer: Answer, rows: &[Row]) -> String {
     text
 }
 
-/// The traits word of a board whose first item has one.
-fn traits_line(word: u32) -> String {
-    let meaning = match word {
-        0 => "sets of contests have one word",
-        WIDE_CONTESTS => "sets of contests have eight words",
-        _ => "only bit 0 has a meaning",
+/// The traits word of a board, or that it has none, and what it is read with: curve, hash and widths.
+fn format_lines(board: &[u32]) -> String {
+    let format = Format::of(board);
+    let (curve, sets) = (format.curve, set_words(format));
+    let said = match traits(board) {
+        Some(word) => format!("traits {word:08x} at word {TRAITS_PLACE}"),
+        None => "no traits word".to_string(),
     };
-    format!("  traits {word:08x} at word {TRAITS_PLACE}: {meaning}\n")
+    let wrong = traits(board).and_then(wrong_traits).map(|wrong| format!("{wrong}; read as ")).unwrap_or_default();
+    let meaning = format!("{wrong}{} with {}, sets of contests have {sets}", curve.name, curve.hash);
+    let widths = widths(format).map(|(name, words)| format!("{name} {words}")).join(", ");
+    format!("  {said}: {meaning}\n  widths in words: {widths}\n")
+}
+
+/// The widths of a format by name, in words.
+fn widths(format: Format) -> [(&'static str, usize); 5] {
+    let curve = format.curve;
+    [
+        ("address", curve.address),
+        ("signature", curve.signature),
+        ("commitment", curve.commitment),
+        ("cryptogram", curve.cryptogram),
+        ("set", format.words(Members::Contests)),
+    ]
 }
 
 fn line(row: &Row, text: &mut String) {
@@ -260,7 +277,16 @@ fn object(folder: &Path, files: &Files, answer: Answer, rows: &[Row]) -> String 
         Some(word) => object.number("traits", word),
         None => object,
     };
-    object.value("list", &array(rows.iter().map(item))).end() + "\n"
+    let format = Format::of(&files.board.words);
+    let widths =
+        widths(format).into_iter().fold(Object::new(), |widths, (name, words)| widths.number(name, words as u64));
+    object
+        .text("curve", format.curve.name)
+        .text("hash", format.curve.hash)
+        .value("widths", &widths.end())
+        .value("list", &array(rows.iter().map(item)))
+        .end()
+        + "\n"
 }
 
 fn item(row: &Row) -> String {

@@ -1,6 +1,6 @@
 //! The item types by name, for people. tests/types.rs holds kinds, codes and counts to the library.
 
-use crate::format::{Format, Members};
+use crate::format::{By, Format, Members};
 
 /// How many content words an item of a type has.
 #[derive(Clone, Copy, Debug)]
@@ -8,8 +8,9 @@ pub enum Counts {
     Between(usize, usize),
     /// So many words, and a set of contests.
     AndContests(usize),
-    /// A set, then so many words for each of its members, of which there is one at least.
-    SetAndEach(Members, usize),
+    Commitment,
+    /// A set, then a cryptogram or a share for each of its members, of which there is one at least.
+    SetAndEach(Members),
 }
 
 impl Counts {
@@ -17,8 +18,9 @@ impl Counts {
         match self {
             Counts::Between(least, most) => (least..=most).contains(&count),
             Counts::AndContests(others) => count == others + format.words(Members::Contests),
-            Counts::SetAndEach(members, size) => {
-                (1..=format.numbers(members)).any(|k| count == format.words(members) + k * size)
+            Counts::Commitment => count == format.curve.commitment,
+            Counts::SetAndEach(members) => {
+                (1..=format.numbers(members)).any(|k| count == format.words(members) + k * format.each(members))
             }
         }
     }
@@ -29,15 +31,22 @@ impl Counts {
             Counts::Between(least, most) if least + 1 == most => format!("{least} or {most}"),
             Counts::Between(least, most) => format!("{least} to {most}"),
             Counts::AndContests(others) => (others + format.words(Members::Contests)).to_string(),
-            Counts::SetAndEach(members, size) => {
-                format!("{} + {size} k, with k from 1 to {}", format.words(members), format.numbers(members))
+            Counts::Commitment => format.curve.commitment.to_string(),
+            Counts::SetAndEach(members) => {
+                let [set, each] = [format.words(members), format.each(members)];
+                format!("{set} + {each} k, with k from 1 to {}", format.numbers(members))
             }
         }
     }
 
-    /// Whether they go by the board's format.
-    pub fn have_contests(self) -> bool {
-        matches!(self, Counts::AndContests(_) | Counts::SetAndEach(Members::Contests, _))
+    /// What of the board's format they go by, if anything.
+    pub fn go_by(self) -> Option<By> {
+        match self {
+            Counts::Between(..) | Counts::SetAndEach(Members::Trustees) => None,
+            Counts::AndContests(_) => Some(By::Sets),
+            Counts::Commitment => Some(By::Curve),
+            Counts::SetAndEach(Members::Contests) => Some(By::Both),
+        }
     }
 }
 
@@ -95,7 +104,7 @@ pub mod code {
 }
 
 use code::*;
-use Counts::{AndContests, Between, SetAndEach};
+use Counts::{AndContests, Between, Commitment, SetAndEach};
 use Members::{Contests, Trustees};
 use Parent::{LatestConfig, OfType, Zeros};
 use Writer::{Administrator, Authorizer, BallotBox, Verifier, Voter};
@@ -112,14 +121,14 @@ pub const TYPES: [Type; 19] = [
     row(AUTHORIZER, "authorizer", Administrator, LatestConfig, Between(9, 9)),
     row(ROUND, "round", Administrator, LatestConfig, AndContests(5)),
     row(SESSION, "session", Authorizer, LatestConfig, AndContests(18)),
-    row(VOTER_COMMITMENT, "voter commitment", Voter, OfType(SESSION), Between(9, 9)),
-    row(SERVER_COMMITMENT, "server commitment", BallotBox, OfType(VOTER_COMMITMENT), Between(9, 9)),
-    row(BALLOT, "ballot", Voter, OfType(SERVER_COMMITMENT), SetAndEach(Contests, 17)),
+    row(VOTER_COMMITMENT, "voter commitment", Voter, OfType(SESSION), Commitment),
+    row(SERVER_COMMITMENT, "server commitment", BallotBox, OfType(VOTER_COMMITMENT), Commitment),
+    row(BALLOT, "ballot", Voter, OfType(SERVER_COMMITMENT), SetAndEach(Contests)),
     row(CAST, "cast", Voter, OfType(BALLOT), Between(0, 0)),
     row(SPOIL, "spoil", Voter, OfType(BALLOT), Between(0, 0)),
     row(INTENT, "extraction intent", Administrator, LatestConfig, Between(0, 0)),
     row(EXTRACTION, "extraction data", BallotBox, OfType(INTENT), Between(8, 8)),
-    row(CONFIRMATION, "confirmation", Administrator, OfType(EXTRACTION), SetAndEach(Trustees, 16)),
+    row(CONFIRMATION, "confirmation", Administrator, OfType(EXTRACTION), SetAndEach(Trustees)),
     row(TRACK, "track start", BallotBox, OfType(BALLOT), Between(0, 0)),
     row(VERIFIER, "verifier", Verifier, OfType(TRACK), Between(8, 8)),
     row(VOTER_OPENING, "voter opening", Voter, OfType(VERIFIER), Between(1, 256)),

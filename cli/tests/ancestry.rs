@@ -10,7 +10,6 @@ use reference::format::*;
 use reference::plan::Link;
 use reference::program::{bytes, words};
 use reference::random::Random;
-use reference::sha256::sha256;
 use reference::sound::{make, Shape};
 use std::path::Path;
 
@@ -39,11 +38,12 @@ const TYPES: [(u32, &str); 19] = [
 
 /// Type code and time of each item, from the words.
 fn items(board: &[u32]) -> Vec<(u32, u64)> {
-    let (mut place, mut found) = (0, Vec::new());
+    let (mut place, mut found, curve) = (0, Vec::new(), Layout::of(board).curve);
     while kind(board[place]) != CLOSING {
         let n = count(board[place]);
-        found.push((code(board[place]), time(board, place + 1 + n + 16)));
-        place += n + FRAME;
+        // Behind parent and previous.
+        found.push((code(board[place]), time(board, place + 1 + n + 2 * curve.widths().address)));
+        place += n + curve.frame();
     }
     found
 }
@@ -157,13 +157,13 @@ fn each_item_of_boards_from_seeds() {
 fn the_longest_ancestry() {
     let random = &mut Random::new(1);
     let shape = Shape { items: 1, words: None, long: 0, voters: 1, extraction: false };
-    let mut plan = make(random, sha256, shape).plan;
+    let mut plan = make(random, shape).plan;
     for at in 1..MAX_ITEMS {
         let mut text = plan.items[at - 1].clone();
         (text.code, text.content, text.parent) = (TEXT, Vec::new(), Link::Item(at - 1));
         plan.items.push(text);
     }
-    let files = files(&plan.lay(sha256));
+    let files = files(&plan.lay());
     let temp = Temp::new("longest");
     let folder = temp.board("board", &files);
     for item in [1, 2, 1_024, 2_047, 2_048] {

@@ -1,5 +1,5 @@
 //! `tirfolma compare`, held to the reference: boards and those that they grew to, other boards, refused ones on either side, and every
-//! kind of MAIN. A collision can't be made with SHA-256: tests/stand_in.rs has a stand-in for the library say that there is one.
+//! kind of MAIN. A collision can't be made: tests/stand_in.rs has a stand-in for the library say that there is one.
 
 mod common;
 
@@ -62,19 +62,25 @@ fn check(kept: &Path, later: &Path, main: Option<&str>, right: &str) -> String {
     assert_eq!((ran.status, ran.errors()), (i32::from(right != "same\n"), ""), "{words:?}");
     let found = objects(ran.text());
     assert_eq!(found.len(), 1);
-    assert_eq!(in_line(&found[0]), right, "{words:?}");
+    let curves = [kept, later].map(|folder| Layout::of(&reference::program::words(&read(folder)[0])).curve.name());
+    assert_eq!(in_line(&found[0], curves), right, "{words:?}");
     if let Some(main) = main.filter(|_| found[0].find("main").is_some()) {
         assert_eq!(found[0].number("main").to_string(), main, "{words:?}");
     }
     right.to_string()
 }
 
-/// The line that an object stands for. It has no keys but those that are documented for its answer.
-fn in_line(object: &Json) -> String {
+/// The line that an object stands for. It has no keys but those that are documented for its answer; the boards' curves if they differ.
+fn in_line(object: &Json, curves: [&str; 2]) -> String {
     let mut keys = object.keys();
     keys.retain(|&key| key != "answer" && key != "main");
     match (object.text("answer"), &keys[..]) {
-        (answer @ ("same" | "apart"), []) => {
+        ("apart", ["kept_curve", "later_curve"]) if curves[0] != curves[1] => {
+            object.number("main");
+            assert_eq!(["kept_curve", "later_curve"].map(|key| object.text(key)), curves);
+            "apart\n".to_string()
+        }
+        (answer @ ("same" | "apart"), []) if curves[0] == curves[1] => {
             object.number("main");
             format!("{answer}\n")
         }
@@ -94,7 +100,7 @@ fn cut(files: &Three, mains: usize) -> Three {
     while seen < mains {
         assert_ne!(kind(board[place]), CLOSING, "so many main items are there");
         seen += usize::from(kind(board[place]) == MAIN);
-        place += count(board[place]) + FRAME;
+        place += count(board[place]) + Layout::of(&board).curve.frame();
         items += 1;
     }
     let mut kept = board[..place].to_vec();

@@ -205,7 +205,7 @@ fn mistakes() -> Vec<(&'static str, &'static str, &'static str)> {
         ("a pointer to pointers", "uint32_t *ballots,", "uint32_t **ballots,"),
         ("no bool", "bool tirfolma_audit(", "int tirfolma_audit("),
         ("a pointer to bool", "bool tirfolma_audit(", "bool *tirfolma_audit("),
-        ("a constant", "TIRFOLMA_AUDIT_WORDS 14", "TIRFOLMA_AUDIT_WORDS 13"),
+        ("a constant", "TIRFOLMA_AUDIT_WORDS 22", "TIRFOLMA_AUDIT_WORDS 21"),
         ("a constant with a product", "(TIRFOLMA_BALLOT_ROW_WORDS * 408)", "(TIRFOLMA_BALLOT_ROW_WORDS * 409)"),
         ("a sum", "(TIRFOLMA_ROLL_ROW_WORDS * 2048)", "(TIRFOLMA_ROLL_ROW_WORDS + 2048)"),
         ("an octal number", "TIRFOLMA_COMPARE_WORDS 6", "TIRFOLMA_COMPARE_WORDS 06"),

@@ -9,8 +9,7 @@ use reference::checks::{case, Group, Makers};
 use reference::format::*;
 use reference::program::{bytes, words};
 use reference::random::Random;
-use reference::sha256::sha256;
-use reference::sound::{make, Shape};
+use reference::sound::{make, make_with, Shape, Traits};
 use std::collections::BTreeSet;
 use std::ffi::OsString;
 use std::fs;
@@ -116,11 +115,12 @@ fn explain() {
 
 /// The address of the last main item, from the words.
 fn end_address(board: &[u32]) -> String {
-    let (mut place, mut end) = (0, String::new());
+    let (mut place, mut end, curve) = (0, String::new(), Layout::of(board).curve);
     while kind(board[place]) != CLOSING {
-        let next = place + count(board[place]) + FRAME;
+        let next = place + count(board[place]) + curve.frame();
         if kind(board[place]) == MAIN {
-            end = board[next - 8..next].iter().map(|word| format!("{word:08x}")).collect();
+            let address = &board[next - curve.widths().address..next];
+            end = address.iter().map(|word| format!("{word:08x}")).collect();
         }
         place = next;
     }
@@ -135,8 +135,13 @@ fn check_object(object: &Json, path: &Path, files: &Three, answer: &str) {
     let keys: BTreeSet<&str> = object.keys().into_iter().collect();
     let said = match object.text("answer") {
         "accepted" => {
-            assert_eq!(keys, ["folder", "answer", "items", "mains", "ballots", "weight", "end", "rows"].into());
-            assert_eq!(object.text("end"), end_address(&words(&files[0])));
+            assert_eq!(
+                keys,
+                ["folder", "answer", "items", "mains", "ballots", "weight", "curve", "end", "rows"].into()
+            );
+            let board = words(&files[0]);
+            assert_eq!(object.text("curve"), Layout::of(&board).curve.name());
+            assert_eq!(object.text("end"), end_address(&board));
             let rows: Vec<String> = object.list("rows").iter().map(row).collect();
             assert_eq!(rows, lines.collect::<Vec<_>>());
             let [a, b, c, d] = ["items", "mains", "ballots", "weight"].map(|key| object.number(key));
@@ -180,10 +185,16 @@ fn other_commands_have_the_documented_keys() {
     };
     // A collision can't be made; tests/stand_in.rs has one.
     let of_collision = ["kept_main", "later_main"].map(String::from);
-    let compared = [keys(&["compare", &good, &good]), keys(&["compare", &good, &bad]), of_collision.to_vec()].concat();
+    let temp = Temp::new("traits");
+    let other_curve = Traits::Said(Layout { curve: Curve::Secp384r1, sets: Width::Narrow });
+    let genesis = Shape { items: 1, words: None, long: 0, voters: 1, extraction: false };
+    let other = make_with(&mut Random::new(4), genesis, other_curve).plan.lay();
+    let other = temp.board("other", &files(&other)).display().to_string();
+    let pairs = [[&good, &good], [&good, &bad], [&good, &other]];
+    let compared = pairs.map(|[kept, later]| keys(&["compare", kept, later, "1"])).concat();
+    let compared = [compared, of_collision.to_vec()].concat();
     let listed = [keys(&["ancestry", &good, "9"]), keys(&["ancestry", &good, "0"])].concat();
     // No more than the head of a genesis with a traits word, and that word.
-    let temp = Temp::new("traits");
     let mut traits = [0; 19];
     traits[0] = 0x1001_0012;
     let traits = temp.board("cut", &[bytes(&traits), vec![], vec![]]).display().to_string();
@@ -309,7 +320,7 @@ fn shown(bytes: &[u8]) -> Vec<String> {
 fn long_work(temp: &Temp) -> (PathBuf, usize) {
     let random = &mut Random::new(3);
     let shape = Shape { items: MAX_ITEMS, words: Some(MAX_WORDS), long: 20, voters: 40, extraction: true };
-    let board = temp.board("board", &files(&make(random, sha256, shape).plan.lay(sha256)));
+    let board = temp.board("board", &files(&make(random, shape).plan.lay()));
     let one = |count: usize| {
         let all = temp.join(count.to_string());
         fs::create_dir(&all).expect("made");

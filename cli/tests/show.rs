@@ -8,8 +8,7 @@ use reference::format::*;
 use reference::plan::{Laid, Link, Spec};
 use reference::program::{bytes, words, PROGRAM_WORDS};
 use reference::random::Random;
-use reference::sha256::sha256;
-use reference::sound::{make, Made, Shape};
+use reference::sound::{make, make_with, Made, Shape, Traits};
 use std::collections::{BTreeSet, HashMap};
 use std::ffi::{OsStr, OsString};
 use std::fs::{self, File};
@@ -20,10 +19,12 @@ use std::sync::atomic::{AtomicUsize, Ordering};
 
 #[path = "common/widths.rs"]
 mod widths;
-use widths::{fits, set_words, traits};
+use widths::{traits, Widths};
 
 const FILES: [&str; 3] = ["board.words", "verdicts.words", "roll.words"];
 const HEADING: [&str; 8] = ["item", "main", "kind", "type", "time", "parent", "session", "closed by"];
+/// The keys of the object of an accepted board without a traits word, and those of an item.
+const BOARD_KEYS: [&str; 7] = ["folder", "answer", "passed", "curve", "hash", "widths", "list"];
 const KEYS: [&str; 12] =
     ["item", "main", "kind", "code", "type", "place", "time", "date", "parent", "session", "closed_by", "state"];
 
@@ -111,6 +112,7 @@ struct Expected {
     at_fault: bool,
     /// The traits word, where the first item has one.
     traits: Option<u32>,
+    widths: Widths,
     rows: Vec<Row>,
 }
 
@@ -143,7 +145,8 @@ impl Expected {
         let at_fault = at_fault && rows.len() > passed;
         link(&board, &mut rows[..passed]);
         hold_to_reference(Board { words: &board, verdicts: &verdicts, roll: &roll }, &rows[..passed]);
-        Expected { answer, number: report.number, passed, at_fault, traits: traits(&board), rows }
+        let (traits, widths) = (traits(&board), Widths::of(&board));
+        Expected { answer, number: report.number, passed, at_fault, traits, widths, rows }
     }
 
     fn state(&self, item: usize) -> &'static str {
@@ -157,16 +160,16 @@ impl Expected {
 
 /// The items as far as their heads can be read; the one at fault, whatever its head.
 fn by_heads(board: &[u32], passed: usize, at_fault: bool) -> Vec<Row> {
-    let (mut rows, mut place, mut mains) = (Vec::new(), 0, 0);
+    let (mut rows, mut place, mut mains, widths) = (Vec::new(), 0, 0, Widths::of(board));
     while let Some(&head) = board.get(place) {
         let item = rows.len() + 1;
-        let readable = kind_of(code(head)) == Some(kind(head)) && fits(set_words(board), code(head), count(head));
+        let readable = widths.is_readable(head);
         if !readable && !(at_fault && item == passed + 1) {
             break;
         }
         mains += usize::from(kind(head) == MAIN);
-        let next = place + FRAME + count(head);
-        let time = (next <= board.len()).then(|| time(board, next - FRAME + 17));
+        let next = place + widths.frame() + count(head);
+        let time = (next <= board.len()).then(|| time(board, place + 1 + count(head) + 2 * widths.address));
         let main = (kind(head) == MAIN).then_some(mains);
         rows.push(Row { item, main, head, place, time, parent: None, session: None, closer: None });
         if !readable {
@@ -180,10 +183,11 @@ fn by_heads(board: &[u32], passed: usize, at_fault: bool) -> Vec<Row> {
 /// Parent, session and closer of items that pass, by the paper. Parent: the first earlier item with that address, among main items for
 /// types up to 48, else among hidden ones. Session: the type 16 met on following parents up.
 fn link(board: &[u32], rows: &mut [Row]) {
-    let mut addresses = [HashMap::new(), HashMap::new()];
+    let (mut addresses, widths) = ([HashMap::new(), HashMap::new()], Widths::of(board));
+    let address = |at: usize| board[at..at + widths.address].to_vec();
     for at in 0..rows.len() {
         let (item, code, after) = (rows[at].item, code(rows[at].head), rows[at].place + 1 + count(rows[at].head));
-        let parent: Option<usize> = addresses[usize::from(code > TRACK)].get(&eight(board, after)).copied();
+        let parent: Option<usize> = addresses[usize::from(code > TRACK)].get(&address(after)).copied();
         rows[at].parent = parent;
         rows[at].session = match code {
             SESSION => Some(item),
@@ -193,14 +197,14 @@ fn link(board: &[u32], rows: &mut [Row]) {
             rows[parent - 1].closer = Some(item);
         }
         let own = &mut addresses[usize::from(kind(rows[at].head) == HIDDEN)];
-        own.entry(eight(board, after + 34)).or_insert(item);
+        own.entry(address(after + widths.frame() - 1 - widths.address)).or_insert(item);
     }
 }
 
 /// The reference says the same of these items: with a closing word they are a sound board, if there is room for it.
 fn hold_to_reference(given: Board, rows: &[Row]) {
     let Some(last) = rows.last() else { return };
-    let mut begun = given.words[..last.place + FRAME + count(last.head)].to_vec();
+    let mut begun = given.words[..last.place + Widths::of(given.words).frame() + count(last.head)].to_vec();
     begun.push(CLOSING << 28 | rows.len() as u32);
     if begun.len() > MAX_WORDS {
         return;
@@ -314,14 +318,25 @@ fn check_page(what: &str, page: &str, name: &str, expected: &Expected) {
     assert!(page.ends_with('\n'), "{what}: the last line is whole");
     let mut lines: Vec<&str> = page.lines().collect();
     assert_eq!(lines[0], format!("{name}\t{}", expected.answer), "{what}: the first line");
-    if let Some(word) = expected.traits {
-        let meaning = match word {
-            0 => "sets of contests have one word",
-            1 => "sets of contests have eight words",
-            _ => "only bit 0 has a meaning",
-        };
-        assert_eq!(lines.remove(1), format!("  traits {word:08x} at word 18: {meaning}"), "{what}: the traits word");
+    let Widths { curve, hash, .. } = expected.widths;
+    let meaning = format!("{curve} with {hash}, sets of contests have {}", expected.widths.set_words());
+    let line = lines.remove(1);
+    match expected.traits {
+        None => assert_eq!(line, format!("  no traits word: {meaning}"), "{what}: no traits word"),
+        Some(word) => {
+            let said = line.strip_prefix(&format!("  traits {word:08x} at word 18: ")).expect("the traits word");
+            match word < 6 {
+                true => assert_eq!(said, meaning, "{what}: the traits word"),
+                // What is wrong with it stands before.
+                false => {
+                    let read = format!("; read as {meaning}");
+                    assert!(said.starts_with("bit") && said.ends_with(&read), "{what}: {said}")
+                }
+            }
+        }
     }
+    let widths = widths_of(expected).map(|(name, words)| format!("{name} {words}")).join(", ");
+    assert_eq!(lines.remove(1), format!("  widths in words: {widths}"), "{what}: the widths");
     assert_eq!(columns(lines[1]), HEADING, "{what}: the heading");
     // What a refused board's page ends with.
     let note = lines.last().is_some_and(|line| line.contains("no answer depends on them"));
@@ -493,9 +508,21 @@ fn check_item(what: &str, item: Value, expected: &Expected, row: &Row) {
     }
 }
 
+/// The widths that are shown.
+fn widths_of(expected: &Expected) -> [(&'static str, usize); 5] {
+    let Widths { address, signature, commitment, cryptogram, set, .. } = expected.widths;
+    [
+        ("address", address),
+        ("signature", signature),
+        ("commitment", commitment),
+        ("cryptogram", cryptogram),
+        ("set", set),
+    ]
+}
+
 fn check_object(what: &str, line: &str, name: &str, expected: &Expected) {
     let accepted = expected.number == 0;
-    let mut keys = vec!["folder", "answer", "passed", "list"];
+    let mut keys = BOARD_KEYS.to_vec();
     if !accepted {
         keys.extend(["number", "explanation"]);
     }
@@ -503,6 +530,13 @@ fn check_object(what: &str, line: &str, name: &str, expected: &Expected) {
     let mut object = members(what, Json::read(line), &keys);
     if let Some(word) = expected.traits {
         assert_eq!(object["traits"], Value::Number(word.into()), "{what}: traits");
+    }
+    assert_eq!(object["curve"], text(expected.widths.curve), "{what}: curve");
+    assert_eq!(object["hash"], text(expected.widths.hash), "{what}: hash");
+    let widths = widths_of(expected);
+    let named = members(what, object.remove("widths").expect("widths"), &widths.map(|(name, _)| name));
+    for (name, words) in widths {
+        assert_eq!(named[name], number_or_null(Some(words)), "{what}: the width of {name}");
     }
     assert_eq!(object["folder"], text(name), "{what}: folder");
     assert_eq!(object["answer"], text(if accepted { "accepted" } else { "refused" }), "{what}: answer");
@@ -590,35 +624,34 @@ fn boards_at_the_limits() {
 }
 
 /// A board of items alone, as many words as there may be, that ends with an item of this type. Texts behind genesis fill it up.
-fn filled(last: u32) -> Laid {
+fn filled(last: u32, traits: Traits) -> Laid {
     let extraction = (INTENT..=CONFIRMATION).contains(&last);
     let shape = Shape { items: 1_950, words: Some(MAX_WORDS - 500), long: 20, voters: 90, extraction };
-    let mut plan = make(&mut Random::new(last.into()), sha256, shape).plan;
+    let mut plan = make_with(&mut Random::new(last.into()), shape, traits).plan;
     let text = plan.items.iter().find(|item| item.code == TEXT).expect("a text").clone();
     let end = plan.items.iter().rposition(|item| item.code == last).expect("an item of the type");
     plan.items.truncate(end + 1);
-    let mut missing = MAX_WORDS - plan.items.iter().map(|item| FRAME + item.content.len()).sum::<usize>();
-    while missing > 0 {
-        // What is left must be enough for another text, or nothing.
-        let most = FRAME + 64;
-        let length = if (most + 1..most + FRAME).contains(&missing) { missing - FRAME } else { missing.min(most) };
-        let (content, time) = (vec![missing as u32; length - FRAME], plan.items[0].time);
+    let frame = traits.layout().curve.frame();
+    let mut missing = MAX_WORDS - plan.items.iter().map(|item| frame + item.content.len()).sum::<usize>();
+    for texts in (1..=missing.div_ceil(frame + 64)).rev() {
+        let length = missing / texts;
+        let (content, time) = (vec![missing as u32; length - frame], plan.items[0].time);
         plan.insert(1, Spec { content, time, parent: Link::Item(0), ..text.clone() });
         plan.items[2].parent = Link::Item(1);
         missing -= length;
     }
     plan.closing = Some(None);
-    plan.lay(sha256)
+    plan.lay()
 }
 
 /// All items pass, but no closing word would fit behind them.
 #[test]
 fn full_of_items_without_a_closing_word() {
     let folder = Temporary::new();
-    for last in
-        [CONTEST, SESSION, SERVER_COMMITMENT, BALLOT, CAST, SPOIL, CONFIRMATION, TRACK, VERIFIER, SERVER_OPENING]
-    {
-        let laid = filled(last);
+    let types =
+        [CONTEST, SESSION, SERVER_COMMITMENT, BALLOT, CAST, SPOIL, CONFIRMATION, TRACK, VERIFIER, SERVER_OPENING];
+    for (last, traits) in types.into_iter().zip(Traits::ALL.into_iter().cycle()) {
+        let laid = filled(last, traits);
         assert_eq!(laid.words.len(), MAX_WORDS);
         folder.write(laid.board());
         let expected = check(&format!("no room to close, {last} last"), &folder.0);
@@ -687,9 +720,9 @@ fn files_of_odd_sizes() {
 /// A board of genesis alone, at this time.
 fn genesis(time: u64) -> Laid {
     let shape = Shape { items: 1, words: None, long: 0, voters: 1, extraction: false };
-    let Made { mut plan, .. } = make(&mut Random::new(7), sha256, shape);
+    let Made { mut plan, .. } = make(&mut Random::new(7), shape);
     plan.items[0].time = time;
-    plan.lay(sha256)
+    plan.lay()
 }
 
 /// Dates that are known from elsewhere: Unix time at its round numbers and ends, leap days, the last time of Java.
@@ -723,7 +756,7 @@ fn well_known_dates() {
 fn columns_stand_under_the_heading() {
     let folder = root().join("samples/election");
     let page = show("columns", &folder, false, 0);
-    let lines: Vec<&str> = page.lines().skip(1).collect();
+    let lines: Vec<&str> = page.lines().skip_while(|line| !line.starts_with("  item")).collect();
     let begin = |name: &str| lines[0].find(name).expect("a heading");
     for line in &lines[1..] {
         for number in ["item", "main", "parent", "session"] {
@@ -756,7 +789,7 @@ fn names_of_folders() {
         let before = parent.0.to_str().expect("a plain name");
         let page = show(shown, &folder, false, 0);
         assert_eq!(page.lines().next(), Some(&*format!("{before}/{shown}\taccepted 1 1 0 0")));
-        let mut keys = vec!["folder", "answer", "passed", "list"];
+        let mut keys = BOARD_KEYS.to_vec();
         let bytes = folder.into_os_string().into_vec();
         let hex: String = bytes.iter().map(|byte| format!("{byte:02x}")).collect();
         let no_text = String::from_utf8(bytes.clone()).is_err();

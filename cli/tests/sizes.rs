@@ -4,10 +4,9 @@ mod common;
 
 use common::*;
 use reference::checks::long_shape;
-use reference::format::MAX_WORDS;
+use reference::format::{Curve, MAX_WORDS};
 use reference::program::PROGRAM_WORDS;
 use reference::random::Random;
-use reference::sha256::sha256;
 use reference::sound::make;
 use std::fs;
 use std::path::{Path, PathBuf};
@@ -149,8 +148,8 @@ fn long_verdicts_and_rolls() {
 #[test]
 fn the_library_s_limit_to_the_word() {
     let random = &mut Random::new(262_144);
-    let shape = long_shape(1, random);
-    let full = files(&make(random, sha256, shape).plan.lay(sha256));
+    let shape = long_shape(1, Curve::Secp256r1, random);
+    let full = files(&make(random, shape).plan.lay());
     assert_eq!(full[0].len(), 4 * MAX_WORDS);
     let longer = |words: usize| {
         let mut files = full.clone();

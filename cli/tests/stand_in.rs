@@ -57,21 +57,50 @@ const KEPT: &str = "board:1:101 verdicts:2:102 roll:3:103 index:10240 ballots:12
 fn an_audit_is_printed_as_it_is_answered() {
     let temp = two_boards();
     let accepted = [
-        ("STAND_IN_AUDIT", "0 4 3 2 5 6 1 2 3 4 5 6 7 4294967295"),
+        ("STAND_IN_AUDIT", "0 4 3 2 5 6 1 2 3 4 5 6 7 4294967295 0 0 0 0 0 0 0 0"),
         ("STAND_IN_BALLOTS", "11 12 13 21 22 23 31 32 33"),
     ];
     let weight = 5 * (1u64 << 32) + 6;
     let (ran, notes) = ask(&temp, &accepted, &["audit", "--rows", "kept"]);
     assert_eq!((ran.text(), ran.status), (format!("kept\taccepted 4 3 2 {weight}\n11 12 13\n21 22 23\n").as_str(), 0));
-    assert_eq!(notes, format!("audit {KEPT} answer:14\n"));
+    assert_eq!(notes, format!("audit {KEPT} answer:22\n"));
     let (ran, _) = ask(&temp, &accepted, &["audit", "--json", "kept"]);
     let object = &objects(ran.text())[0];
     assert_eq!(object.text("end"), "00000001000000020000000300000004000000050000000600000007ffffffff");
     assert_eq!((object.number("weight"), object.number("ballots")), (weight, 2));
     for number in (1..=16).chain([18, 20, 21]) {
-        let answer = format!("{number} 7 0 0 0 0 0 0 0 0 0 0 0 0");
+        let answer = format!("{number} 7 0 0 0 0 0 0 0 0 0 0 0 0 0 0 0 0 0 0 0 0");
         let (ran, _) = ask(&temp, &[("STAND_IN_AUDIT", &answer)], &["audit", "kept"]);
         assert_eq!((ran.text(), ran.status), (format!("kept\trefused {number} at 7\n").as_str(), 1));
+    }
+}
+
+/// Of the sixteen words of the end address as many are printed as the board's traits word says.
+#[test]
+fn an_end_address_is_printed_as_wide_as_it_is() {
+    let temp = two_boards();
+    let answer = [("STAND_IN_AUDIT", "0 1 1 0 0 0 1 2 3 4 5 6 7 8 9 10 11 12 13 14 15 4294967295")];
+    let end: Vec<String> = (1..16).chain([u32::MAX]).map(|word| format!("{word:08x}")).collect();
+    for (head, traits, curve, words) in [
+        (0x1001_0012, 0, "secp256r1", 8),
+        (0x1001_0012, 1, "secp256r1", 8),
+        (0x1001_0012, 2, "secp384r1", 12),
+        (0x1001_0012, 3, "secp384r1", 12),
+        (0x1001_0012, 4, "secp521r1", 16),
+        (0x1001_0012, 5, "secp521r1", 16),
+        (0x1001_0011, 5, "secp256r1", 8),
+    ] {
+        let mut board = [0; 19];
+        (board[0], board[18]) = (head, traits);
+        let bytes: Vec<u8> = board.iter().flat_map(|word: &u32| word.to_be_bytes()).collect();
+        fs::write(temp.join("kept/board.words"), bytes).expect("written");
+        let (ran, _) = ask(&temp, &answer, &["audit", "--json", "kept"]);
+        let object = &objects(ran.text())[0];
+        assert_eq!(
+            (object.text("end"), object.text("curve")),
+            (end[..words].concat().as_str(), curve),
+            "{head:x} {traits}"
+        );
     }
 }
 

@@ -1,9 +1,11 @@
-//! The stored boards: on each the program says what the auditor prints, and of a folder without a file that it was not audited.
+//! The stored boards: on each the program says what the auditor prints, and of a folder without a file that it was not audited. The stored
+//! comparisons: of each it says what is expected.
 
 mod common;
 
 use common::*;
 use reference::program::PROGRAM_WORDS;
+use std::collections::BTreeSet;
 use std::fs;
 use std::os::unix::ffi::OsStrExt;
 use std::path::{Path, PathBuf};
@@ -108,4 +110,40 @@ fn sound_boards_alone_are_all_accepted() {
     let ran = tirfolma(words_of(&["audit"], &sound));
     assert_eq!((ran.status, ran.errors()), (0, ""));
     assert_eq!(ran.lines().len(), sound.len());
+}
+
+/// What is printed of a stored comparison, and the main number that is asked for.
+fn compared(folder: &Path) -> (String, String) {
+    let text = fs::read_to_string(folder.join("expected")).expect("what is expected is stored");
+    let lines: Vec<&str> = text.lines().collect();
+    let [Some(number), Some(answer)] = [("number ", 0), ("answer ", 1)].map(|(key, at)| lines[at].strip_prefix(key))
+    else {
+        panic!("{text}");
+    };
+    let answer = match answer.split(' ').collect::<Vec<_>>()[..] {
+        ["refused", board, number, items] => format!("{board} refused {number} at {items}\n"),
+        _ => format!("{answer}\n"),
+    };
+    (answer, number.to_string())
+}
+
+#[test]
+fn each_comparison_is_answered_as_expected() {
+    let temp = Temp::new("compared");
+    let mut answers = BTreeSet::new();
+    for folder in stored("tests/comparisons") {
+        let board = |which: &str| {
+            let file = |name: &str| folder.join(format!("{which}-{name}"));
+            temp.board(which, &NAMES.map(|name| fs::read(file(name)).unwrap_or_default()))
+        };
+        let folders = [board("kept"), board("later")];
+        let (answer, number) = compared(&folder);
+        let mut words = words_of(&["compare"], &folders);
+        words.push(number.into());
+        let ran = tirfolma(&words);
+        assert_eq!((ran.text(), ran.errors()), (answer.as_str(), ""), "{}", folder.display());
+        assert_eq!(ran.status, i32::from(answer != "same\n"), "{}", folder.display());
+        answers.insert(answer.split(' ').next().expect("a word").trim().to_string());
+    }
+    assert_eq!(answers, ["apart", "kept", "later", "same"].map(String::from).into());
 }

@@ -1,14 +1,14 @@
 //! The table of item types, held to the library: a board that ends with a head is refused by 5 where the head's type is not listed under
-//! its kind, by 6 where its count is not in the table for the width of the board's sets, and by 4 where both are good.
+//! its kind, by 6 where its count is not in the table for the board's curve and the width of its sets, and by 4 where both are good.
 
 #[path = "common/widths.rs"]
 mod widths;
 
-use reference::sha256::sha256;
 use tirfolma::format::Format;
 use tirfolma::library::{audit, Answer, Board, Refusal, Tables};
+use tirfolma::types::code::BALLOT;
 use tirfolma::types::{of_code, TYPES};
-use widths::{fits, set_words};
+use widths::Widths;
 
 /// The words and verdicts before the head, and how many items they are.
 struct Before {
@@ -22,19 +22,20 @@ fn genesis(traits: Option<u32>) -> Before {
     let key = [7; 8];
     let content = [&[1][..], &key, &[9; 8], traits.as_slice()].concat();
     let mut words = vec![1 << 28 | 1 << 16 | content.len() as u32];
-    words.extend(content);
+    words.extend(&content);
+    let widths = Widths::of(&words);
     // Parent, previous, time.
-    words.extend([0; 8 + 8 + 2]);
-    let address = sha256(&words);
-    words.extend([0; 16]);
+    words.resize(content.len() + widths.hashed_frame(), 0);
+    let address = widths.hashed(&words);
+    words.resize(words.len() + widths.signature, 0);
     words.extend(address);
     Before { words, verdicts: [&[0x3000_0001][..], &key].concat(), items: 1 }
 }
 
 /// Nothing, and each genesis that opens a board.
-fn befores() -> [Before; 4] {
+fn befores() -> impl Iterator<Item = Before> {
     let nothing = Before { words: Vec::new(), verdicts: Vec::new(), items: 0 };
-    [nothing, genesis(None), genesis(Some(0)), genesis(Some(1))]
+    [nothing, genesis(None)].into_iter().chain((0..6).map(|traits| genesis(Some(traits))))
 }
 
 /// The refusal of the board that ends with this head.
@@ -83,12 +84,14 @@ fn every_kind_and_type() {
 fn count_counts(before: &mut Before, code: u32, hidden: bool, tables: &mut Tables) -> (usize, usize) {
     let kind = if hidden { 2 } else { 1 };
     let far = (10..16).map(|bit| 1 << bit).chain(65_000..65_536);
+    // The most that a ballot has are 8 + 34 * 256.
+    let near = if code == BALLOT { 9_000 } else { 700 };
     let (mut fit, mut misfit) = (0, 0);
-    for count in (0..=4_500).chain(far) {
+    for count in (0..=near).chain(far) {
         let number = refusal(before, kind, code, count, tables);
         assert_eq!(number, told(before, kind, code, count), "type {code}, count {count}");
         // And to the papers, which these tests read for themselves.
-        let is_papers = fits(set_words(&before.words), code, count as usize);
+        let is_papers = Widths::of(&before.words).fits(code, count as usize);
         assert_eq!(number, if is_papers { 4 } else { 6 }, "type {code}, count {count}, by the papers");
         fit += usize::from(number == 4);
         misfit += usize::from(number == 6);

@@ -5,7 +5,7 @@ use super::refused::{Numbered, Refused};
 use super::sets::Set;
 use super::text::{are, count, hex, list, place, start};
 use super::widths;
-use crate::format::{Format, Members, WIDE_CONTESTS};
+use crate::format::{By, Format, Members, CRYPTOGRAM_ZEROS};
 use crate::times::date;
 use crate::types::code::*;
 
@@ -16,11 +16,6 @@ const LISTED: usize = 8;
 const LAST_ROUND: u32 = 15;
 const MOST_TRUSTEES: u32 = 32;
 
-/// The words of a commitment, a cryptogram, and what a trustee has in a confirmation.
-const COMMITMENT: usize = 9;
-const CRYPTOGRAM: usize = 17;
-const SHARE: usize = 16;
-
 pub fn bad(refused: &Refused) -> Option<String> {
     match refused.code() {
         GENESIS => bad_traits(refused),
@@ -29,7 +24,7 @@ pub fn bad(refused: &Refused) -> Option<String> {
         AUTHORIZER => bad_mode(refused),
         ROUND => bad_round(refused),
         SESSION => bad_session(refused),
-        VOTER_COMMITMENT | SERVER_COMMITMENT => low_bits(refused, COMMITMENT - 1, 24, "its last content word"),
+        VOTER_COMMITMENT | SERVER_COMMITMENT => bad_commitment(refused),
         BALLOT => bad_ballot(refused),
         EXTRACTION => Some(bad_fingerprint(refused)),
         CONFIRMATION => bad_confirmation(refused),
@@ -54,10 +49,8 @@ fn wrong(refused: &Refused, field: usize, name: &str, rule: &str) -> String {
 /// The last word of a genesis that has a word more than others.
 fn bad_traits(refused: &Refused) -> Option<String> {
     let traits = *refused.item.content().get(genesis::TRAITS)?;
-    (traits & !WIDE_CONTESTS != 0).then(|| {
-        let at = at(refused, genesis::TRAITS);
-        format!("has the traits {} at {at}, but only bit 0 of them may be set. Look at this word", hex(traits))
-    })
+    let wrong = widths::wrong_traits(traits)?;
+    Some(format!("has the traits {} at {}, but {wrong}. Look at this word", hex(traits), at(refused, genesis::TRAITS)))
 }
 
 /// A number that no set of contests of the board has. It may be one of the other width.
@@ -69,11 +62,13 @@ fn bad_contest(refused: &Refused) -> Option<String> {
     if number <= last(format) {
         return None;
     }
-    if number > last(format.other()) {
+    let mut others = format.others(By::Sets);
+    others.retain(|&other| number <= last(other));
+    if others.is_empty() {
         return Some(said(&rule));
     }
-    let rule = widths::on_board(format, &rule) + &widths::would_fit(number as usize, format.other());
-    Some(said(&rule) + &widths::look(refused.board))
+    let rule = widths::on_board(format, By::Sets, &rule) + &widths::would_fit(number as usize, format, &others);
+    Some(said(&rule) + &widths::look(refused.board, By::Sets))
 }
 
 fn bad_threshold(refused: &Refused) -> Option<String> {
@@ -146,9 +141,14 @@ fn low_bits(refused: &Refused, field: usize, bits: u32, name: &str) -> Option<St
     })
 }
 
+fn bad_commitment(refused: &Refused) -> Option<String> {
+    let curve = refused.item.format.curve;
+    low_bits(refused, curve.commitment - 1, curve.commitment_zeros, "its last content word")
+}
+
 /// A set that the content begins with, and a part for each member behind it.
-fn parts(refused: &Refused, set: Set, member: &str, part: &str, size: usize) -> Option<String> {
-    let parts = (refused.item.content().len() - set.words()) / size;
+fn parts(refused: &Refused, set: Set, members: Members, member: &str, part: &str) -> Option<String> {
+    let parts = (refused.item.content().len() - set.words()) / refused.item.format.each(members);
     (parts != set.count() as usize).then(|| {
         format!(
             "has {} in its set, {}, but {}. Look at the set, and at the number of content words",
@@ -161,15 +161,15 @@ fn parts(refused: &Refused, set: Set, member: &str, part: &str, size: usize) -> 
 
 fn bad_ballot(refused: &Refused) -> Option<String> {
     let set = Set::of_contests(&refused.item);
-    parts(refused, set, "contest", "cryptogram", CRYPTOGRAM)
+    parts(refused, set, Members::Contests, "contest", "cryptogram")
         .or_else(|| set.members().find_map(|contest| may_not_vote(refused, contest)))
         .or_else(|| (1..=set.count() as usize).find_map(|k| bad_cryptogram(refused, set, k)))
 }
 
 /// The cryptograms, from 1 on, stand behind the set.
 fn bad_cryptogram(refused: &Refused, set: Set, k: usize) -> Option<String> {
-    let last = set.words() + k * CRYPTOGRAM - 1;
-    low_bits(refused, last, 16, &format!("the last word of cryptogram {k}"))
+    let last = set.words() + k * refused.item.format.curve.cryptogram - 1;
+    low_bits(refused, last, CRYPTOGRAM_ZEROS, &format!("the last word of cryptogram {k}"))
 }
 
 /// A contest that is not in the session's set, or that no open round enables.
@@ -231,7 +231,7 @@ fn counted(refused: &Refused) -> Vec<usize> {
 
 fn bad_confirmation(refused: &Refused) -> Option<String> {
     let set = Set::of_trustees(&refused.item);
-    parts(refused, set, "trustee", "trustee share", SHARE).or_else(|| trustees(refused, set))
+    parts(refused, set, Members::Trustees, "trustee", "trustee share").or_else(|| trustees(refused, set))
 }
 
 /// Numbers below that of trustees, and as many of them as are needed.

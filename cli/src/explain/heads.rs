@@ -48,16 +48,16 @@ pub fn wrong_count(files: &Files, items: u32) -> Option<String> {
     ))
 }
 
-/// The numbers that a type has, and what else to look at where another would fit the other width of sets.
+/// The numbers that a type has, and what else to look at where the one that is given would fit another format.
 fn counts(board: &[u32], row: &Type, given: usize) -> (String, String) {
     let format = Format::of(board);
     let rule = format!("{} has {}", one(row.code), row.counts.in_words(format));
-    if !row.counts.have_contests() {
-        return (rule, String::new());
-    }
-    let rule = widths::on_board(format, &rule);
-    match row.counts.fit(format.other(), given) {
-        true => (rule + &widths::would_fit(given, format.other()), widths::look(board)),
-        false => (rule, String::new()),
+    let Some(by) = row.counts.go_by() else { return (rule, String::new()) };
+    let rule = widths::on_board(format, by, &rule);
+    let mut others = format.others(by);
+    others.retain(|&other| row.counts.fit(other, given));
+    match others.is_empty() {
+        true => (rule, String::new()),
+        false => (rule + &widths::would_fit(given, format, &others), widths::look(board, by)),
     }
 }

@@ -3,8 +3,9 @@
 use super::fields::*;
 use super::refused::{Numbered, Refused};
 use super::text::{are, hex, place, start, BOARD, VERDICTS};
-use crate::board::{SIGNATURE, VERDICT};
+use crate::board::VERDICT;
 use crate::files::Files;
+use crate::format::Part;
 use crate::types::code::*;
 use crate::types::{self, Writer};
 
@@ -115,7 +116,7 @@ pub fn bad_signature(refused: &Refused, files: &Files) -> Option<String> {
              Look at the log of the signature checker, and at the signature, at {} of {BOARD}",
             hex(BAD),
             place(from),
-            place(refused.item.place_behind_content(SIGNATURE))
+            place(refused.item.place_of(Part::Signature))
         )
     })
 }

@@ -1,20 +1,23 @@
 //! Refusals 7 to 10: an item's address, the items that it names, and its time.
 
 use super::refused::{Numbered, Refused};
-use super::text::{one, place, start};
-use crate::board::{ADDRESS, PARENT, PREVIOUS, SIGNATURE, TIME};
+use super::text::{in_words, one, place, start};
+use super::widths;
+use crate::format::Part;
 use crate::times::date;
 use crate::types::Parent;
 
 /// 7: the address is not the hash. That is the library's word: there is no hash here.
 pub fn address(refused: &Refused) -> String {
-    let behind = |part| refused.item.place_behind_content(part);
+    let item = &refused.item;
+    let (fit, look) = widths::of_frame(refused.board, item.place);
     format!(
-        "has an address, {} at {}, that is not the SHA-256 of its words {} to {}. Look at whether a word was changed",
-        start(refused.item.address()),
-        place(behind(ADDRESS)),
-        refused.item.place,
-        behind(SIGNATURE) - 1
+        "has an address, {} at {}, that is not the {} of its words {} to {}{fit}. Look at whether a word was changed{look}",
+        start(item.address()),
+        place(item.place_of(Part::Address)),
+        item.format.curve.hash,
+        item.place,
+        item.place_of(Part::Signature) - 1
     )
 }
 
@@ -22,16 +25,21 @@ fn is_zeros(words: &[u32]) -> bool {
     words.iter().all(|&word| word == 0)
 }
 
+/// What stands in the place of an address where there is no item to name.
+fn zeros(refused: &Refused) -> String {
+    format!("{} zeros", in_words(refused.item.format.curve.address))
+}
+
 /// 8: the previous field.
 pub fn previous(refused: &Refused) -> Option<String> {
     let item = &refused.item;
-    let look = format!("Look at its previous field, at {}", place(item.place_behind_content(PREVIOUS)));
+    let look = format!("Look at its previous field, at {}", place(item.place_of(Part::Previous)));
     if !item.is_main() {
         return hidden_previous(refused).map(|wrong| format!("{wrong}. {look}"));
     }
     let Some(before) = refused.last_main() else {
         let wrong = format!("names the address {} as the item before it", start(item.previous()));
-        let must = "but it is the first main item, whose previous field must be eight zeros";
+        let must = format!("but it is the first main item, whose previous field must be {}", zeros(refused));
         return (!is_zeros(item.previous())).then(|| format!("{wrong}, {must}. {look}"));
     };
     (item.previous() != before.item.address()).then(|| format!("{}. {look}", main_previous(refused, before)))
@@ -42,7 +50,8 @@ fn main_previous(refused: &Refused, before: Numbered) -> String {
     let previous = refused.item.previous();
     let must = format!("the main item before it is {}", before.name());
     if is_zeros(previous) {
-        return format!("has eight zeros in its previous field, as only the first main item may, but {must}");
+        let zeros = zeros(refused);
+        return format!("has {zeros} in its previous field, as only the first main item may, but {must}");
     }
     if let Some(main) = refused.with_address(false, previous) {
         let why = "an item may have been added between, or this one moved";
@@ -70,7 +79,7 @@ fn hidden_previous(refused: &Refused) -> Option<String> {
         format!(
             "is on a hidden track and {named} as its previous field, which must equal its parent field, {} at {}",
             start(item.parent()),
-            place(item.place_behind_content(PARENT))
+            place(item.place_of(Part::Parent))
         )
     })
 }
@@ -89,7 +98,7 @@ pub fn parent(refused: &Refused) -> Option<String> {
         }
         (Parent::OfType(_), Some(_)) => return None,
     };
-    let at = place(refused.item.place_behind_content(PARENT));
+    let at = place(refused.item.place_of(Part::Parent));
     Some(format!("{wrong}. Look at its parent field, at {at}"))
 }
 
@@ -97,7 +106,7 @@ pub fn parent(refused: &Refused) -> Option<String> {
 fn needed(refused: &Refused) -> String {
     let this = refused.row.name;
     match refused.row.parent {
-        Parent::Zeros => format!("the parent field of a {this} must be eight zeros"),
+        Parent::Zeros => format!("the parent field of a {this} must be {}", zeros(refused)),
         Parent::LatestConfig => match refused.latest_config() {
             Some(latest) => format!("its parent must be the latest configuration item, {}", latest.name()),
             None => "its parent must be the latest configuration item".to_string(),
@@ -129,7 +138,8 @@ fn not_found(refused: &Refused) -> String {
         return format!("names {} as its parent, but that stands behind it: items may have been moved", later.name());
     }
     if is_zeros(parent) {
-        return format!("has eight zeros in its parent field, as only a genesis may; {}", needed(refused));
+        let zeros = zeros(refused);
+        return format!("has {zeros} in its parent field, as only a genesis may; {}", needed(refused));
     }
     let wrong = format!("no {sought} item before it has the address {}", start(parent));
     format!("names a parent that is not found: {wrong}; {}", needed(refused))
@@ -148,7 +158,7 @@ pub fn time(refused: &Refused) -> Option<String> {
             date(item.time()),
             date(bound.item.time()),
             bound.name(),
-            place(item.place_behind_content(TIME))
+            place(item.place_of(Part::Time))
         )
     })
 }

@@ -14,13 +14,19 @@ pub fn of(number: u32) -> Option<Reason> {
         1 => ("too large: more words than the limit, or a 2049th item", "the size of board.words"),
         2 => ("a table of the calling program is too short", "the calling program"),
         3 => ("empty: no words, or the first is a closing word", "whether board.words was written"),
-        4 => ("truncated: an item runs past the end, or there is no closing word", "how the files were copied"),
+        4 => (
+            "truncated: an item runs past the end, or there is no closing word",
+            "how the files were copied; for item 1 also at the traits word, or whether it is missing",
+        ),
         5 => ("its kind or type is unknown", "its head"),
         6 => (
             "its number of content words is not in the table of types",
-            "the low 16 bits of its head; for types 6, 16 and 19 also at the traits word, or whether it is missing",
+            "the low 16 bits of its head; for types 6 and 16 to 19 also at the traits word, or whether it is missing",
         ),
-        7 => ("its address is not the hash of its words", "whether a word of it was changed"),
+        7 => (
+            "its address is not the hash of its words",
+            "whether a word of it was changed; for item 1 also at the traits word, or whether it is missing",
+        ),
         8 => ("it does not name the item before it", "whether an item is missing, added or moved"),
         9 => ("its parent is not found, or not of the listed type", "its parent field"),
         10 => ("its time is earlier than that of the item before it", "its time field"),

@@ -1,9 +1,10 @@
 //! Refusals 1, 3, 4 and 18: the sizes of the files, and the closing word.
 
 use super::text::{self, are, count, hex, place, BOARD, VERDICTS};
-use super::{head_behind, place_behind};
-use crate::board::{Head, CLOSING, FRAME, VERDICT};
+use super::{head_behind, place_behind, widths};
+use crate::board::{Head, CLOSING, VERDICT};
 use crate::files::{Files, Words, NAMES};
+use crate::format::Format;
 use crate::library::header::{TIRFOLMA_BOARD_ITEMS, TIRFOLMA_BOARD_WORDS};
 use crate::library::Refusal;
 
@@ -49,8 +50,9 @@ pub fn truncated(files: &Files, items: u32) -> Option<String> {
     if files.size_refusal() == Some(Refusal { number: 4, items }) {
         return Some(part_of_a_word(files));
     }
-    let words = files.board.words.len();
-    if items > 0 && place_behind(&files.board.words, items)? == words {
+    let board = &files.board.words;
+    let words = board.len();
+    if items > 0 && place_behind(board, items)? == words {
         return Some(format!(
             "{BOARD} ends at {}, behind item {items}, without a closing word: items may be missing. \
              Look at how it was copied",
@@ -58,12 +60,13 @@ pub fn truncated(files: &Files, items: u32) -> Option<String> {
         ));
     }
     let (head, at) = head_behind(files, items)?;
-    let (needed, left) = (head.count() + FRAME, words - at);
+    let (needed, left) = (head.count() + Format::of(board).frame(), words - at);
     let item = text::refused_item(items as usize + 1, Some(head.listed()?.name), at);
     (needed > left).then(|| {
+        let (fit, look) = widths::of_frame(board, at);
         format!(
-            "{item} runs past the end of the file: by its head it has {needed} words, but there {} {left} only. \
-             Look at how the file was copied",
+            "{item} runs past the end of the file: by its head it has {needed} words, but there {} {left} only{fit}. \
+             Look at how the file was copied{look}",
             are(left as u64)
         )
     })

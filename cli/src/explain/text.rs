@@ -67,6 +67,16 @@ pub fn count(number: u64, what: &str) -> String {
     format!("{number} {what}{end}")
 }
 
+/// A width as a word.
+pub fn in_words(number: usize) -> String {
+    match number {
+        8 => "eight".to_string(),
+        12 => "twelve".to_string(),
+        16 => "sixteen".to_string(),
+        _ => number.to_string(),
+    }
+}
+
 /// The verb of a number of things.
 pub fn are(number: u64) -> &'static str {
     if number == 1 {

@@ -1,9 +1,8 @@
 //! What an explanation claims of other items, held to the words.
 
 use crate::content::counted;
-use crate::words::{items, number_behind, place_behind, Item, SIGNATURE};
+use crate::words::{is_zeros, items, number_behind, place_behind, Item};
 use reference::format::*;
-use reference::sha256::sha256;
 use tirfolma::files::Files;
 use tirfolma::library::Refusal;
 use tirfolma::times::date;
@@ -61,7 +60,7 @@ impl Claims<'_> {
         self.places()?;
         self.starts()?;
         self.names()?;
-        self.widths()
+        self.formats()
     }
     pub fn item(&self) -> &Item {
         &self.items[self.at]
@@ -123,7 +122,8 @@ impl Claims<'_> {
             return so(!is_named || self.named("names item ")?.address == item.previous, "the item that it names");
         }
         let Some(last) = last else {
-            return so(self.says("first main item") && item.previous != ZEROS, "a first main item");
+            let says = format!("it is the first main item, whose previous field must be {}. ", item.zeros());
+            return so(self.says(&says) && !is_zeros(&item.previous), &says);
         };
         so(self.named("the main item before it is item ")?.number == last.number, "the main item before it")?;
         so(item.previous != last.address, "it does not name that")?;
@@ -133,8 +133,8 @@ impl Claims<'_> {
             so(self.says("which stands behind it") == (named.number > item.number), "the order of both")?;
             return so(named.number > item.number || self.says("a hidden track, ") == named.is_hidden(), "hidden");
         }
-        let is_zeros = item.previous == ZEROS;
-        so(self.says("has eight zeros in its previous field") == is_zeros, "eight zeros")?;
+        let is_zeros = is_zeros(&item.previous);
+        so(self.says(&format!("has {} in its previous field", item.zeros())) == is_zeros, item.zeros())?;
         so(is_zeros || self.says(", which no item before it has, "), "an unknown address")?;
         so(self.before().iter().all(|i| i.address != item.previous), "no item before it has the address")
     }
@@ -168,8 +168,10 @@ impl Claims<'_> {
             let says = self.says(&must) || self.says(&must_an) || self.says(&bare);
             so(says || self.says("stands behind it") || self.at == 0, "the listed type of its parent")?;
         }
-        let zeros = "has eight zeros in its parent field, as only a genesis may; ";
-        so(self.says(zeros) == (item.parent == ZEROS && self.at > 0), "eight zeros")
+        let of_genesis = format!("but the parent field of a genesis must be {}. ", item.zeros());
+        so(self.says(&of_genesis) == (item.code == GENESIS), &of_genesis)?;
+        let says = format!("has {} in its parent field, as only a genesis may; ", item.zeros());
+        so(self.says(&says) == (is_zeros(&item.parent) && self.at > 0), &says)
     }
 
     fn earlier_time(&self) -> Result<(), String> {
@@ -301,10 +303,14 @@ impl Claims<'_> {
     fn address(&self) -> Result<(), String> {
         let (item, board) = (self.item(), &self.files.board.words);
         // Head, content, parent, previous, time.
-        let (first, last) = (item.place, item.behind_content(SIGNATURE) - 1);
-        so(sha256(&board[first..=last]) != item.address, "the address is wrong")?;
-        let says = format!(", that is not the SHA-256 of its words {first} to {last}. ");
-        so(self.says(&says), &says)
+        let (first, last) = (item.place, item.signature_place() - 1);
+        so(item.widths.hashed(&board[first..=last]) != item.address, "the address is wrong")?;
+        let (fit, look) = self.other_frame(item.place)?;
+        let hash = item.widths.hash;
+        let says = format!(
+            ", that is not the {hash} of its words {first} to {last}{fit}. Look at whether a word was changed{look}."
+        );
+        so(self.text.ends_with(&says), &says)
     }
 
     fn closing(&self) -> Result<(), String> {

@@ -1,6 +1,8 @@
 //! What is claimed of a bad content, by the rules of the types.
 
 use crate::claims::{so, Claims};
+use crate::formats::wrong_traits;
+use crate::widths::Widths;
 use crate::words::Item;
 use reference::format::*;
 use reference::sha256::sha256;
@@ -9,7 +11,7 @@ use tirfolma::times::date;
 /// What is said of a contest in a set, up to the place of the set's word that has it.
 pub fn contest_in_set(item: &Item, contest: usize) -> String {
     let word = item.content[item.set_field() + contest / 32];
-    let bit = if item.set == 1 { String::new() } else { format!("bit {} of ", contest % 32) };
+    let bit = if item.widths.set == 1 { String::new() } else { format!("bit {} of ", contest % 32) };
     format!("has contest {contest} in its set of contests, {bit}{word:08x} at ")
 }
 
@@ -29,7 +31,10 @@ impl Claims<'_> {
             ROUND => self.round(),
             SESSION if c[1] == 0 => self.rule(true, "weight", 0, "it must be at least 1"),
             SESSION => self.contests(),
-            VOTER_COMMITMENT | SERVER_COMMITMENT => self.low_bits(c[8], 24, "its last content word"),
+            VOTER_COMMITMENT | SERVER_COMMITMENT => {
+                let widths = self.item().widths;
+                self.low_bits(c[widths.commitment - 1], widths.zeros, "its last content word")
+            }
             BALLOT => self.ballot(),
             EXTRACTION => self.fingerprint(),
             CONFIRMATION => self.confirmation(),
@@ -45,24 +50,25 @@ impl Claims<'_> {
 
     /// A number that sets of the other width have goes by the width of the board.
     fn contest_number(&self, number: usize) -> Result<(), String> {
-        let set = self.item().set;
+        let set = self.item().widths.set;
         let rule = format!("it must be at most {}", 32 * set - 1);
         if set == 8 || number > 255 {
             return self.rule(number >= 32 * set, "contest number", number as u32, &rule);
         }
         so(number > 31 && self.says(&format!("has the contest number {number} at word ")), "its number")?;
-        let (fit, look) = (self.fits_other(number), self.look_at_width());
-        let says =
-            format!(", but on this board, whose sets of contests have one word, {rule}{fit}. Look at this word{look}.");
+        let (own, fit) = (self.on_board((false, true)), self.fits_others(number)?);
+        let says = format!(", but {own}{rule}{fit}. Look at this word{}.", self.look_at_format((false, true)));
         so(self.text.ends_with(&says), &says)
     }
 
     fn traits(&self) -> Result<(), String> {
         let item = self.item();
-        so(item.number == 1 && item.content.len() == 18 && item.content[17] > 1, "a word with other bits")?;
-        let says =
-            format!("has the traits {:08x} at word 18, byte 72, but only bit 0 of them may be set", item.content[17]);
-        so(self.says(&format!("{says}. Look at this word.")), &says)
+        so(item.number == 1 && item.content.len() == 18, "a first item with a traits word")?;
+        let word = item.content[17];
+        so(Widths::of_traits(word).is_none(), "a traits word that is refused")?;
+        let wrong = wrong_traits(word).ok_or("nothing is wrong with it")?;
+        let says = format!("has the traits {word:08x} at word 18, byte 72, but {wrong}. Look at this word.");
+        so(self.text.ends_with(&says), &says)
     }
 
     fn threshold(&self, trustees: u32, needed: u32) -> Result<(), String> {
@@ -93,7 +99,7 @@ impl Claims<'_> {
     fn contests(&self) -> Result<(), String> {
         let item = self.item();
         if item.contests().is_empty() {
-            let (words, look) = if item.set == 1 { ("", "this word") } else { ("8 words ", "these words") };
+            let (words, look) = if item.widths.set == 1 { ("", "this word") } else { ("8 words ", "these words") };
             let is_said = self.says(&format!("has no contests: its set of contests, {words}at word "));
             return so(is_said && self.says(&format!(", is empty. Look at {look}.")), "an empty set");
         }
@@ -129,7 +135,7 @@ impl Claims<'_> {
 
     fn ballot(&self) -> Result<(), String> {
         let item = self.item();
-        let set = if item.set == 1 { format!("{:08x} ", item.content[0]) } else { "8 words ".to_string() };
+        let set = if item.widths.set == 1 { format!("{:08x} ", item.content[0]) } else { "8 words ".to_string() };
         if self.parts(item.contests().len(), "contest", item.cryptograms(), "cryptogram", &set)? {
             return Ok(());
         }

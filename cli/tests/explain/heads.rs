@@ -2,7 +2,7 @@
 
 use crate::claims::{so, Claims};
 use crate::content::counted;
-use crate::widths::{fits, has_no_traits, set_words, traits};
+use crate::widths::Widths;
 use crate::words::place_behind;
 use reference::format::*;
 use tirfolma::files::{Files, NAMES};
@@ -49,10 +49,14 @@ impl Claims<'_> {
                 so(self.says(&says) && self.at == MAX_ITEMS && kind(head) != CLOSING, &says)
             }
             4 => {
-                let (needed, left) = (count(head) + FRAME, board.len() - place);
+                let (needed, left) = (count(head) + Widths::of(board).frame(), board.len() - place);
                 let there = if left == 1 { "is" } else { "are" };
-                let says = format!("by its head it has {needed} words, but there {there} {left} only. ");
-                so(self.says(&says) && left < needed, &says)
+                let (fit, look) = self.other_frame(place)?;
+                let says = format!(
+                    "by its head it has {needed} words, but there {there} {left} only{fit}. \
+                     Look at how the file was copied{look}."
+                );
+                so(self.text.ends_with(&says) && left < needed, &says)
             }
             5 => self.unknown(head),
             _ => self.wrong_count(head),
@@ -73,87 +77,5 @@ impl Claims<'_> {
             None => ", which is not a listed type. ".to_string(),
         };
         so(self.says(&says) && kind_of(code) != Some(given), &says)
-    }
-
-    fn wrong_count(&self, head: u32) -> Result<(), String> {
-        let (code, given) = (code(head), count(head));
-        let set = set_words(&self.files.board.words);
-        so(!fits(set, code, given), "the number does not fit")?;
-        let has = format!("has {} by its head {head:08x}, but ", counted(given, "content word"));
-        so(self.says(&has), &has)?;
-        let counts = format!("{} has {}", types::name(code), listed_counts(set, code));
-        if ![ROUND, SESSION, BALLOT].contains(&code) {
-            let says = format!(" {counts}. Look at the low 16 bits of the head.");
-            return so(self.text.ends_with(&says) && !self.says(" sets "), &says);
-        }
-        let own = format!("but on this board, whose sets of contests have {}, a {counts}", words_of_set(set));
-        let (fit, look) = match fits(other(set), code, given) {
-            true => (self.fits_other(given), self.look_at_width()),
-            false => Default::default(),
-        };
-        let says = format!("{own}{fit}. Look at the low 16 bits of the head{look}.");
-        so(self.text.ends_with(&says), &says)
-    }
-
-    /// What is said of a number that would fit the other width of sets.
-    pub fn fits_other(&self, number: usize) -> String {
-        format!("; {number} would fit sets of {}", words_of_set(other(set_words(&self.files.board.words))))
-    }
-
-    /// What is said behind what else is to be looked at: the traits word, or that the genesis has none.
-    pub fn look_at_width(&self) -> String {
-        let board = &self.files.board.words;
-        let none = ", and at item 1 (genesis), which has no traits word, so that sets have one word";
-        match traits(board) {
-            Some(word) => format!(", and at the traits word, {word:08x} at word 18, byte 72"),
-            None if has_no_traits(board) => none.to_string(),
-            None => String::new(),
-        }
-    }
-
-    /// Whatever the refusal: the width that is named is the board's, the number that would fit the other does, and a genesis that is said
-    /// to have no traits word has none.
-    pub fn widths(&self) -> Result<(), String> {
-        let board = &self.files.board.words;
-        let set = set_words(board);
-        so(!self.says("no traits word") || has_no_traits(board), "a genesis without a traits word")?;
-        let own = format!("on this board, whose sets of contests have {}, ", words_of_set(set));
-        so(self.says(" on this board") == self.says(&own), &own)?;
-        let Some((before, behind)) = self.text.split_once(" would fit sets of ") else { return Ok(()) };
-        so(self.says(&own) && behind.starts_with(&format!("{}. ", words_of_set(other(set)))), "the other width")?;
-        let number = before.rsplit("; ").next().and_then(|number| number.parse().ok()).ok_or("no number")?;
-        let head = place_behind(board, self.at).and_then(|place| board.get(place)).ok_or("no head")?;
-        match self.number {
-            6 => so(number == count(*head) && fits(other(set), code(*head), number), "the number that fits"),
-            _ => so(number == self.item().content[0] as usize && number < 32 * other(set), "the contest that fits"),
-        }
-    }
-}
-
-/// The counts of a type, as they are listed.
-fn listed_counts(set: usize, code: u32) -> String {
-    let fits: Vec<usize> = (0..=5_000).filter(|&n| fits(set, code, n)).collect();
-    let (least, most) = (fits[0], fits[fits.len() - 1]);
-    match most - least {
-        0 => format!("{least}"),
-        1 => format!("{least} or {most}"),
-        range if range + 1 == fits.len() => format!("{least} to {most}"),
-        _ => {
-            let each = fits[1] - least;
-            format!("{} + {each} k, with k from 1 to {}", least - each, fits.len())
-        }
-    }
-}
-
-/// The other of the two widths of a set.
-fn other(set: usize) -> usize {
-    9 - set
-}
-
-fn words_of_set(set: usize) -> &'static str {
-    if set == 1 {
-        "one word"
-    } else {
-        "eight words"
     }
 }

@@ -3,12 +3,13 @@
 
 mod claims;
 mod content;
+mod formats;
 mod heads;
 mod phrases;
 mod places;
-mod wide;
-#[path = "../common/wide.rs"]
-mod wide_boards;
+mod traits;
+#[path = "../common/traits.rs"]
+mod traits_boards;
 #[path = "../common/widths.rs"]
 mod widths;
 mod words;

@@ -13,8 +13,22 @@ const MISSING: &[&str] = &["does not have that voter", "roll.words is empty"];
 const WEIGHT: &[&str] = &["has that voter with weight "];
 const HIDDEN: &[&str] = &["as its previous field, which must equal its parent field"];
 const HIDDEN_NAMES: &[&str] = &["is on a hidden track and names item "];
-const UNKNOWN: &[&str] =
-    &["which no item before it has", "it is the first main item, whose previous field must be eight zeros", HIDDEN[0]];
+const FIRST: &[&str] = &["it is the first main item, whose previous field must be "];
+const UNKNOWN: &[&str] = &["which no item before it has", FIRST[0], HIDDEN[0]];
+const GENESIS: &[&str] = &["but the parent field of a genesis must be "];
+const NO_PARENT: &[&str] = &["names a parent that is not found"];
+const FIRST_ITEM: &[&str] = &["is the first item, so that no item before it can be its parent"];
+const CUT: &[&str] = &["runs past the end of the file"];
+const COUNT: &[&str] = &[" by its head "];
+const HASH: &[&str] = &[
+    "that is not the SHA-256 of its words ",
+    "that is not the SHA-384 of its words ",
+    "that is not the SHA-512 of its words ",
+];
+/// What would follow with other widths.
+const OTHER_FRAME: &[&str] =
+    &["; with the widths of secp256r1 ", "; with the widths of secp384r1 ", "; with the widths of secp521r1 "];
+const OTHER_CURVE: &[&str] = &[" would fit secp"];
 const ADDED: &[&str] = &["an item may have been added between, or this one moved"];
 const CONFIG: &[&str] = &["as its parent, but the latest configuration item is item "];
 const CAST: &[&str] = &["which was cast by item "];
@@ -33,7 +47,9 @@ const CRYPTOGRAM_COUNT: &[&str] = &[
     "with k from 1 to 32. Look at the low 16 bits of the head.",
     "with k from 1 to 256. Look at the low 16 bits of the head.",
 ];
-const TRAITS: &[&str] = &["but only bit 0 of them may be set"];
+const TRAITS: &[&str] = &[", but bit ", ", but bits "];
+const CURVE_3: &[&str] = &["bits 1 and 2 give the number 3, which no curve has"];
+const READ_AS: &[&str] = &[" has no meaning", " have no meaning"];
 const CRYPTOGRAMS: &[&str] = &[" cryptogram. ", " cryptograms. "];
 const COUNTED: &[&str] = &["that is not the SHA-256 of the content", "that is not the SHA-256 of the empty message"];
 const BELOW: &[&str] = &["numbers are below "];
@@ -46,12 +62,15 @@ const BEHIND: &[&str] = &["word stands behind it", "words stand behind it"];
 const ROWS: &[Row] = &[
     ("3/no words", &["board.words has no words"]),
     ("3/closing word first", &["is a closing word, so that the board has no items"]),
-    ("4/cut in an item", &["runs past the end of the file"]),
+    ("4/cut in an item", CUT),
     ("4/cut after a head", &["words, but there is 1 only"]),
-    ("4/one word short", &["runs past the end of the file"]),
+    ("4/one word short", CUT),
     ("4/no closing word", &["without a closing word"]),
-    ("4/roll, voter missing", &["runs past the end of the file"]),
-    ("4/width, ", &["runs past the end of the file"]),
+    ("4/roll, voter missing", CUT),
+    ("4/width, ", CUT),
+    ("4/curve, ", CUT),
+    ("4/curve, genesis alone, laid out as on a smaller curve", OTHER_FRAME),
+    ("4/curve, unknown traits, laid out as on their curve", READ_AS),
     ("5/kind", &["but an item has kind 1 (main) or kind 2 (hidden)"]),
     ("5/unlisted main type", &["kind 1 (main) and type "]),
     ("5/unlisted hidden type", &["kind 2 (hidden) and type "]),
@@ -59,34 +78,52 @@ const ROWS: &[Row] = &[
     ("5/main type as hidden", &["has kind 1 (main)"]),
     ("5/unlisted head as last word", &["which is not a listed type"]),
     ("5/roll, voter missing", &["but a session has kind 1 (main)"]),
-    ("6/head", &[" by its head "]),
-    ("6/content", &[" by its head "]),
-    ("6/head as last word", &[" by its head "]),
+    ("5/curve, hidden genesis", &["but a genesis has kind 1 (main)"]),
+    ("6/head", COUNT),
+    ("6/content", COUNT),
+    ("6/head as last word", COUNT),
     ("6/roll, voter missing, misfit", &[", a session has 19", ", a session has 26"]),
-    ("6/width, ", &[" by its head "]),
+    ("6/width, ", COUNT),
     (
         "6/width, wide board not said to be, a round",
         &[" would fit sets of eight words. Look at the low 16 bits of the head, and at "],
     ),
     (
         "6/width, narrow board said to be wide",
-        &[" would fit sets of one word. Look at the low 16 bits of the head, and at the traits word, 00000001 at "],
+        &[" would fit sets of one word. Look at the low 16 bits of the head, and at the traits word, 0000000"],
     ),
     (
         "6/width, set of the other width",
         &[
-            " would fit sets of one word. Look at the low 16 bits of the head, and at the traits word, 00000001 at ",
-            " would fit sets of eight words. Look at the low 16 bits of the head, and at the traits word, 00000000 at ",
+            " would fit sets of one word. Look at the low 16 bits of the head, and at the traits word, 0000000",
+            " would fit sets of eight words. Look at the low 16 bits of the head, and at the traits word, 0000000",
             " would fit sets of eight words. Look at the low 16 bits of the head, and at item 1 (genesis), which has no ",
         ],
     ),
+    // Other curves may fit, too.
+    ("6/width, set of the other width, type 19", &["sets of one word", "sets of eight words"]),
     // There is no genesis to look at.
     ("6/width, first is type ", &[" would fit sets of eight words. Look at the low 16 bits of the head."]),
     ("6/width, no cryptogram", CRYPTOGRAM_COUNT),
     ("6/width, a cryptogram over all", CRYPTOGRAM_COUNT),
-    ("7/", &["that is not the SHA-256 of its words "]),
+    ("6/curve, cryptograms of another curve", OTHER_CURVE),
+    ("6/curve, commitment of another curve", OTHER_CURVE),
+    ("6/curve, shares as wide as signatures", COUNT),
+    ("6/curve, fingerprint as wide as an address", COUNT),
+    // There is no genesis to look at.
+    (
+        "6/curve, first is type ",
+        &[
+            " would fit secp384r1. Look at the low 16 bits of the head.",
+            " would fit secp521r1. Look at the low 16 bits of the head.",
+        ],
+    ),
+    ("7/", HASH),
+    ("7/curve, laid out as on another curve", OTHER_FRAME),
+    ("7/curve, unknown traits, laid out as on their curve", READ_AS),
+    ("7/curve, number 3, laid out as on another", CURVE_3),
     ("8/one bit", UNKNOWN),
-    ("8/zeros", &["has eight zeros in its previous field", HIDDEN[0]]),
+    ("8/zeros", &[" zeros in its previous field", HIDDEN[0]]),
     ("8/main names hidden", &["which is on a hidden track, but the main item before it is item "]),
     ("8/two back", ADDED),
     ("8/main names parent", ADDED),
@@ -96,24 +133,30 @@ const ROWS: &[Row] = &[
     ("8/hidden first", HIDDEN),
     ("8/random", UNKNOWN),
     ("8/roll, voter missing, broken history", UNKNOWN),
-    ("8/width, ", &["whose previous field must be eight zeros"]),
-    ("9/genesis with a parent", &["as its parent, but the parent field of a genesis must be eight zeros"]),
+    ("8/width, ", FIRST),
+    ("8/curve, previous, a bit", UNKNOWN),
+    ("8/curve, hidden previous, a bit", HIDDEN),
+    ("8/curve, first previous, a bit", FIRST),
+    ("9/genesis with a parent", GENESIS),
     ("9/hidden before its parent", &["as its parent, but that stands behind it"]),
     (
         "9/opening under a track start, not spoiled",
         &["(track start) as its parent, but the parent of a voter opening must be a verifier"],
     ),
-    ("9/not found", &["names a parent that is not found", "but the parent field of a genesis must be eight zeros"]),
-    ("9/one bit", &["names a parent that is not found"]),
-    ("9/zeros", &["has eight zeros in its parent field, as only a genesis may; "]),
+    ("9/not found", &[NO_PARENT[0], GENESIS[0]]),
+    ("9/one bit", NO_PARENT),
+    ("9/zeros", &[" zeros in its parent field, as only a genesis may; "]),
     ("9/older config", CONFIG),
     ("9/no config", CONFIG),
     ("9/hidden parent", &["as its parent, but that is a hidden item"]),
     ("9/main parent", &["as its parent, but that is a main item"]),
     ("9/other type", &["as its parent, but the parent of "]),
-    ("9/first", &["is the first item, so that no item before it can be its parent"]),
-    ("9/roll, voter missing", &["names a parent that is not found"]),
-    ("9/width, ", &["but the parent field of a genesis must be eight zeros"]),
+    ("9/first", FIRST_ITEM),
+    ("9/roll, voter missing", NO_PARENT),
+    ("9/width, ", GENESIS),
+    ("9/curve, genesis of 17 words", GENESIS),
+    ("9/curve, text in the place of a genesis", FIRST_ITEM),
+    ("9/curve, parent, a bit behind the eighth word", &[NO_PARENT[0], GENESIS[0]]),
     ("10/", &[", which is earlier than "]),
     ("11/after intent", &["(extraction intent), after which only "]),
     ("11/late", ROUNDS),
@@ -143,6 +186,7 @@ const ROWS: &[Row] = &[
     ("12/cast after spoil and opening", &["was already spoiled by item "]),
     ("12/under a parent", &[" under the same parent, item "]),
     ("12/width, ", &["item 1 is the board's genesis already"]),
+    ("12/curve, ", &["item 1 is the board's genesis already"]),
     ("13/contest number", NUMBER),
     ("13/threshold, t zero", &["has the threshold 0 at word "]),
     ("13/threshold, t over m", &["trustee only, by the word before it", "trustees only, by the word before it"]),
@@ -188,6 +232,13 @@ const ROWS: &[Row] = &[
     ("13/width, all traits", TRAITS),
     ("13/width, traits ", TRAITS),
     ("13/width, unknown traits", TRAITS),
+    ("13/curve, number 3", CURVE_3),
+    ("13/curve, fingerprint by the curve's hash", COUNTED),
+    ("13/curve, cryptograms of another curve, a count that fits", CRYPTOGRAMS),
+    ("13/curve, shares as wide as signatures, a count that fits", &[" trustee shares. "]),
+    ("13/curve, highest low bit of a commitment", BITS),
+    ("13/curve, lowest low bit of a commitment", BITS),
+    ("13/curve, low bit of a commitment", BITS),
     ("13/width, first contest number too many", NUMBER),
     ("13/width, wide board not said to be, a contest", &[" would fit sets of eight words. Look at this word, and at "]),
     ("13/width, contest undefined", UNDEFINED),

@@ -79,7 +79,10 @@ impl Claims<'_> {
             }
         }
         match self.number {
-            4 => all.push(known("board.words ends at ", board.len())),
+            4 => {
+                all.push(known("board.words ends at ", board.len()));
+                all.extend(behind.into_iter().flat_map(|place| self.other_frames(place)).chain(self.traits_place()));
+            }
             6 => all.extend(self.traits_place()),
             7..=16 | 21 => all.extend(self.items.get(self.at).into_iter().flat_map(|item| self.places_of_item(item))),
             20 => all.extend(self.places_of_roll()),
@@ -95,13 +98,16 @@ impl Claims<'_> {
     fn places_of_item(&self, item: &Item) -> Vec<Known> {
         let verdict = VERDICT_WORDS * self.at;
         match self.number {
-            7 => vec![(format!("has an address, {} at ", start(&item.address)), item.behind_content(ADDRESS))],
+            7 => {
+                let own = (format!("has an address, {} at ", start(&item.address)), item.address_place());
+                [own].into_iter().chain(self.other_frames(item.place)).chain(self.traits_place()).collect()
+            }
             8 => vec![
-                known("Look at its previous field, at ", item.behind_content(PREVIOUS)),
-                (format!("equal its parent field, {} at ", start(&item.parent)), item.behind_content(PARENT)),
+                known("Look at its previous field, at ", item.previous_place()),
+                (format!("equal its parent field, {} at ", start(&item.parent)), item.parent_place()),
             ],
-            9 => vec![known("Look at its parent field, at ", item.behind_content(PARENT))],
-            10 => vec![known("Look at its time field, at ", item.behind_content(TIME))],
+            9 => vec![known("Look at its parent field, at ", item.parent_place())],
+            10 => vec![known("Look at its time field, at ", item.time_place())],
             13 => content_places(item).into_iter().chain(self.traits_place()).collect(),
             14 => vec![known("Look at verdicts.words, ", verdict)],
             15 => {
@@ -110,7 +116,7 @@ impl Claims<'_> {
             }
             16 => vec![
                 known("has a bad signature: its verdict is 30000000 at ", verdict),
-                known("and at the signature, at ", item.behind_content(SIGNATURE)),
+                known("and at the signature, at ", item.signature_place()),
             ],
             21 => {
                 let roll = &self.files.roll.words;
@@ -195,8 +201,8 @@ fn keys_in(item: &Item) -> Vec<Key<'_>> {
 /// The places of a set of contests: of each of its words, and of all.
 fn set_places(item: &Item) -> impl Iterator<Item = Known> + '_ {
     let from = item.set_field();
-    let whole = if item.set == 1 { format!("{:08x} ", item.content[from]) } else { "8 words ".to_string() };
-    let empty = if item.set == 1 { "" } else { "8 words " };
+    let whole = if item.widths.set == 1 { format!("{:08x} ", item.content[from]) } else { "8 words ".to_string() };
+    let empty = if item.widths.set == 1 { "" } else { "8 words " };
     let all = [format!(" in its set, {whole}at "), format!("has no contests: its set of contests, {empty}at ")];
     let each = item.contests().into_iter().map(move |j| (contest_in_set(item, j), from + j / 32));
     each.chain(all.map(|phrase| (phrase, from)))
@@ -223,7 +229,10 @@ fn content_places(item: &Item) -> Vec<Known> {
             own.into_iter().chain(set_places(item)).collect()
         }
         SESSION => set_places(item).chain([(format!("has the weight {} at ", c[1]), 1)]).collect(),
-        VOTER_COMMITMENT | SERVER_COMMITMENT => vec![(format!("has {:08x} as its last content word, at ", c[8]), 8)],
+        VOTER_COMMITMENT | SERVER_COMMITMENT => {
+            let last = c.len() - 1;
+            vec![(format!("has {:08x} as its last content word, at ", c[last]), last)]
+        }
         BALLOT => {
             let last = |k: usize, word: u32| format!("has {word:08x} as the last word of cryptogram {k}, at ");
             let ends = (1..=item.cryptograms()).map(|k| (k, item.cryptogram_end(k)));
