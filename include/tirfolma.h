@@ -24,8 +24,9 @@ extern "C" {
 #define TIRFOLMA_BOARD_WORDS 262144
 #define TIRFOLMA_BOARD_ITEMS 2048
 
-/* Words of the answer. */
-#define TIRFOLMA_AUDIT_WORDS 14
+/* Words of the answer, and of the end address in it. */
+#define TIRFOLMA_AUDIT_WORDS 22
+#define TIRFOLMA_END_WORDS 16
 
 /* Words of an index table for every board: a row for each item. */
 #define TIRFOLMA_INDEX_ROW_WORDS 5
@@ -53,7 +54,7 @@ enum {
     TIRFOLMA_BALLOTS = 3,     /* counted ballots */
     TIRFOLMA_WEIGHT_HIGH = 4, /* their total weight, high word */
     TIRFOLMA_WEIGHT_LOW = 5,  /* and low word */
-    TIRFOLMA_END = 6          /* eight words: the address of the last main item */
+    TIRFOLMA_END = 6          /* TIRFOLMA_END_WORDS words: the address of the last main item, of 8, 12 or 16 words, and zeros behind it */
 };
 
 /* Where the words of an index row stand. Row k, from 1 on, is that of item k: it begins at word TIRFOLMA_INDEX_ROW_WORDS * (k - 1). */
@@ -80,11 +81,17 @@ enum {
    that do not rise strictly are refused by 20; a session whose voter is not on the roll with the session's weight by 21. A roll of no words
    is good, and has no voters.
 
-   How wide the board's sets of contests are, its own first item tells. Where that is a genesis of 18 content words, the last of them, word
-   18 of the board, is its traits word: with 1 each set has eight words, for contests 0 to 255. With 0, and on a board that has no such word,
-   a set has one, for contests 0 to 31. Any other traits word is refused by 13. Limits, tables and answers are the same for both widths.
+   Which curve a board is on and how wide its sets of contests are, its own first item tells. Where that is a genesis of 18 content words,
+   the last of them, board[18], is its traits word. Bit 0 set gives each set eight words, for contests 0 to 255; else a set has
+   one, for contests 0 to 31. Bits 1 and 2 are the number of the curve:
+                                     signature   commitment   cryptogram   address, parent, previous   hash
+     0 secp256r1                     16 words    9            17           8                           SHA-256
+     1 secp384r1                     24          13           25           12                          SHA-384
+     2 secp521r1                     33          17           34           16                          SHA-512
+   A board that has no such word is on secp256r1, with sets of one word. A traits word above 5 is refused by 13; until then such a board is
+   read with these widths, too. Limits, tables and answers are the same for all boards.
 
-   True: the first 14 words of the answer are as above, of a refusal too (words 2 to 13 are then 0), and the words behind them are as they
+   True: the first 22 words of the answer are as above, of a refusal too (words 2 to 21 are then 0), and the words behind them are as they
    were. The tables:
      refusal 2, and 1 for more than 262144 words    every word as it was
      any other refusal                              every word 0
@@ -92,7 +99,7 @@ enum {
      accepted, the ballot table                     a row for each counted ballot, as above; then zeros
    An index table of fewer than 10240 words or a ballot table of fewer than 1224 is refused by 2.
 
-   False: the answer has fewer than 14 words. No word of any buffer is written.
+   False: the answer has fewer than 22 words. No word of any buffer is written.
 
    Contract: `Audited` in crates/abi/specs/Written.antt. */
 bool tirfolma_audit(
@@ -125,7 +132,8 @@ enum {
 };
 
 /* Audits a kept board, then a later one, each with its own roll and tables, and compares all main items of the kept board with those of the
-   later one up to a main number of the later one. A number that the later board does not have is refusal 19, of the later board.
+   later one up to a main number of the later one. A number that the later board does not have is refusal 19, of the later board. Boards on
+   different curves have addresses of different widths, and are apart; boards on one curve are compared whatever the widths of their sets.
 
    True: the first 6 words of the answer are as above, and the words behind them are as they were. Each board's tables are as tirfolma_audit
    leaves them; the later board's are as they were if the kept one is refused, and both are filled under 19.
