@@ -4,64 +4,14 @@
    library accepts, as one of a newer format, has its time alone. */
 #define _POSIX_C_SOURCE 199309L
 #include <stdbool.h>
-#include <stdio.h>
-#include <stdlib.h>
 #include <string.h>
-#include <time.h>
 
-#include "tirfolma.h"
+#include "boards.h"
 
 /* Rounds of a row; one that misses the bar is run on, up to so many: a busy machine spoils some. */
 enum { ROUNDS = 1000, MOST_ROUNDS = 5000 };
 
-typedef bool audit_function(const uint32_t *, size_t, const uint32_t *, size_t, const uint32_t *, size_t, uint32_t *, size_t, uint32_t *, size_t,
-                            uint32_t *, size_t);
-
 audit_function before_tirfolma_audit;
-
-struct words {
-    uint32_t *at;
-    size_t count;
-};
-
-struct board {
-    struct words words, verdicts, roll;
-};
-
-/* What an audit leaves. */
-struct left {
-    uint32_t index[TIRFOLMA_INDEX_WORDS], ballots[TIRFOLMA_BALLOT_WORDS], answer[TIRFOLMA_AUDIT_WORDS];
-};
-
-static struct words read_words(const char *folder, const char *name)
-{
-    char path[4096];
-    snprintf(path, sizeof path, "%s/%s", folder, name);
-    FILE *file = fopen(path, "rb");
-    if (file == NULL) {
-        perror(path);
-        exit(2);
-    }
-    struct words read = {malloc(4 * TIRFOLMA_BOARD_WORDS), 0};
-    unsigned char bytes[4];
-    while (read.count < TIRFOLMA_BOARD_WORDS && fread(bytes, 1, 4, file) == 4)
-        read.at[read.count++] = (uint32_t)bytes[0] << 24 | (uint32_t)bytes[1] << 16 | (uint32_t)bytes[2] << 8 | bytes[3];
-    fclose(file);
-    return read;
-}
-
-/* The processor time of one audit, in microseconds. */
-static double timed(audit_function *audit, const struct board *b, struct left *left)
-{
-    struct timespec start, end;
-    clock_gettime(CLOCK_THREAD_CPUTIME_ID, &start);
-    bool told = audit(b->words.at, b->words.count, b->verdicts.at, b->verdicts.count, b->roll.at, b->roll.count, left->index,
-                      TIRFOLMA_INDEX_WORDS, left->ballots, TIRFOLMA_BALLOT_WORDS, left->answer, TIRFOLMA_AUDIT_WORDS);
-    clock_gettime(CLOCK_THREAD_CPUTIME_ID, &end);
-    if (!told)
-        abort();
-    return (double)(end.tv_sec - start.tv_sec) * 1e6 + (double)(end.tv_nsec - start.tv_nsec) / 1e3;
-}
 
 static int by_value(const void *a, const void *b)
 {
@@ -90,7 +40,7 @@ static bool row(const char *folder, double bar)
 {
     static struct left was, is;
     static double before[MOST_ROUNDS], after[MOST_ROUNDS];
-    struct board board = {read_words(folder, "board.words"), read_words(folder, "verdicts.words"), read_words(folder, "roll.words")};
+    struct board board = read_board(folder);
     size_t rounds = 0;
     double ratio = 0;
     bool newer = false;
@@ -109,9 +59,7 @@ static bool row(const char *folder, double bar)
     else
         printf(" %10.1f %10.1f %8.3f %8.3f", median(before, rounds), median(after, rounds), ratio, least(after, rounds) / least(before, rounds));
     printf("  %zu rounds, %s\n", rounds, newer ? "refused before" : same ? "one answer" : "ANSWERS DIFFER");
-    free(board.words.at);
-    free(board.verdicts.at);
-    free(board.roll.at);
+    free_board(board);
     return newer || (same && ratio <= bar);
 }
 
