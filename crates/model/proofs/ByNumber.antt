@@ -8,10 +8,13 @@ use mathlib.Core.List.{List, [], _∷_}
 use Rattle.model.specs.Refusal.{emptyBoard, truncated, badClosing, badRoll}
 use Rattle.model.specs.Format.{Format}
 use Rattle.model.specs.Roll.{onRoll}
-use Rattle.model.specs.Audit.{Outcome, unread, refused, audit}
-use Rattle.model.specs.Reasons.{FirstOf, numbersOf, startReasons, EndsAt, ClosesAt, HeadAt, itemReasons, closingReasons, Reached, Answers, atStart, atRoll, atEmpty, atEnd, atItem, atClosing}
+use Rattle.model.specs.Audit.{Outcome, unread, refused, accepted, audit}
+use Rattle.model.specs.Reasons.{FirstOf, numbersOf, startReasons, EndsAt, ClosesAt, HeadAt, itemReasons, closingReasons, Reached, Answers, atStart, atRoll, atEmpty, atEnd, atItem, atClosing, acceptance}
 use Rattle.model.proofs.FirstReason.{every-first}
 use Rattle.model.proofs.Reasons.{answers}
+
+by-five : {A B C D E X : Type 0} → A ⊎ (B ⊎ (C ⊎ (D ⊎ E))) → (A → X) → (B → X) → (C → X) → (D → X) → (E → X) → X
+by-five s a b c d e = ⊎-elim a (⊎-elim b (⊎-elim c (⊎-elim d e))) s
 
 module _ (f : Format) (ws vs roll : List ℕ) (index ballots : ℕ) where
   abbrev Answer : Outcome → Type 0
@@ -42,45 +45,52 @@ module _ (f : Format) (ws vs roll : List ℕ) (index ballots : ℕ) where
 
   -- ---- from an answer to its reason
 
-  unread-of : {n : ℕ} → Answer (unread n) → FirstOf (startReasons ws roll index ballots) n × (n ≢ badRoll) × (n ≢ emptyBoard)
-  unread-of (atStart n s bad other) = (s, bad, other)
+  -- why an outcome is given; a refusal has one of five reasons
+  abbrev Why : Outcome → Type 0
+  Why (unread n) = FirstOf (startReasons ws roll index ballots) n × (n ≢ badRoll) × (n ≢ emptyBoard)
+  Why (refused n k) =
+      ((n ≡ badRoll) × (k ≡ 0) × FirstOf (startReasons ws roll index ballots) badRoll)
+      ⊎ (((n ≡ emptyBoard) × (k ≡ 0) × FirstOf (startReasons ws roll index ballots) emptyBoard)
+      ⊎ (((n ≡ truncated) × Reaching k × EndsAt f ws k)
+      ⊎ ((Reaching k × HeadAt f ws k × FirstOf (itemReasons f (onRoll roll) ws vs k) n)
+      ⊎ (Reaching k × ClosesAt f ws k × FirstOf (closingReasons f ws vs k) n))))
+  Why (accepted h) = Unit
 
-  roll-of : {n k : ℕ} → Answer (refused n k) → n ≡ badRoll → FirstOf (startReasons ws roll index ballots) badRoll × (k ≡ 0)
-  roll-of (atRoll s) q = (s, refl)
-  roll-of (atEmpty s) q = absurd (omega arith)
-  roll-of (atEnd k r end) q = absurd (omega arith)
-  roll-of (atItem n k r head s) q = absurd (item-roll n k s q)
-  roll-of (atClosing n k r last s) q = absurd (omega (arith, closing-numbers n k s))
+  why : {o : Outcome} → Answer o → Why o
+  why (atStart n s bad other) = (s, bad, other)
+  why (atRoll s) = inl (refl, refl, s)
+  why (atEmpty s) = inr (inl (refl, refl, s))
+  why (atEnd k r end) = inr (inr (inl (refl, r, end)))
+  why (atItem n k r head s) = inr (inr (inr (inl (r, head, s))))
+  why (atClosing n k r last s) = inr (inr (inr (inr (r, last, s))))
+  why (acceptance k r last u) = tt
 
-  empty-of : {n k : ℕ} → Answer (refused n k) → n ≡ emptyBoard → FirstOf (startReasons ws roll index ballots) emptyBoard × (k ≡ 0)
-  empty-of (atRoll s) q = absurd (omega arith)
-  empty-of (atEmpty s) q = (s, refl)
-  empty-of (atEnd k r end) q = absurd (omega arith)
-  empty-of (atItem n k r head s) q = absurd (item-numbers n k s .0 q)
-  empty-of (atClosing n k r last s) q = absurd (omega (arith, closing-numbers n k s))
+  roll-of : {k : ℕ} → Answer (refused badRoll k) → FirstOf (startReasons ws roll index ballots) badRoll × (k ≡ 0)
+  roll-of {k} a =
+      by-five (why a) (λ (e, none, s). (s, none)) (λ (e, none, s). absurd (omega arith)) (λ (e, r, end). absurd (omega arith))
+      (λ (r, head, s). absurd (item-roll badRoll k s refl)) (λ (r, last, s). absurd (omega (arith, closing-numbers badRoll k s)))
 
-  truncated-of : {n k : ℕ} → Answer (refused n k) → n ≡ truncated
+  empty-of : {k : ℕ} → Answer (refused emptyBoard k) → FirstOf (startReasons ws roll index ballots) emptyBoard × (k ≡ 0)
+  empty-of {k} a =
+      by-five (why a) (λ (e, none, s). absurd (omega arith)) (λ (e, none, s). (s, none)) (λ (e, r, end). absurd (omega arith))
+      (λ (r, head, s). absurd (item-numbers emptyBoard k s .0 refl)) (λ (r, last, s). absurd (omega (arith, closing-numbers emptyBoard k s)))
+
+  truncated-of : {k : ℕ} → Answer (refused truncated k)
       → Reaching k × (EndsAt f ws k ⊎ (HeadAt f ws k × FirstOf (itemReasons f (onRoll roll) ws vs k) truncated))
-  truncated-of (atRoll s) q = absurd (omega arith)
-  truncated-of (atEmpty s) q = absurd (omega arith)
-  truncated-of (atEnd k r end) q = (r, inl end)
-  truncated-of (atItem n k r head s) q = (r, inr (head, rw q at s))
-  truncated-of (atClosing n k r last s) q = absurd (omega (arith, closing-numbers n k s))
+  truncated-of {k} a =
+      by-five (why a) (λ (e, none, s). absurd (omega arith)) (λ (e, none, s). absurd (omega arith)) (λ (e, r, end). (r, inl end))
+      (λ (r, head, s). (r, inr (head, s))) (λ (r, last, s). absurd (omega (arith, closing-numbers truncated k s)))
 
   item-of : {n k : ℕ} → Answer (refused n k) → n ≢ badRoll → n ≢ emptyBoard → n ≢ truncated → n ≢ badClosing
       → Reaching k × HeadAt f ws k × FirstOf (itemReasons f (onRoll roll) ws vs k) n
-  item-of (atRoll s) good blank whole early = absurd (good refl)
-  item-of (atEmpty s) good blank whole early = absurd (blank refl)
-  item-of (atEnd k r end) good blank whole early = absurd (whole refl)
-  item-of (atItem n k r head s) good blank whole early = (r, head, s)
-  item-of (atClosing n k r last s) good blank whole early = absurd (early (closing-numbers n k s))
+  item-of {n} {k} a good blank whole early =
+      by-five (why a) (λ (e, none, s). absurd (good e)) (λ (e, none, s). absurd (blank e)) (λ (e, r, end). absurd (whole e))
+      (λ (r, head, s). (r, head, s)) (λ (r, last, s). absurd (early (closing-numbers n k s)))
 
-  closing-of : {n k : ℕ} → Answer (refused n k) → n ≡ badClosing → Reaching k × ClosesAt f ws k × FirstOf (closingReasons f ws vs k) badClosing
-  closing-of (atRoll s) q = absurd (omega arith)
-  closing-of (atEmpty s) q = absurd (omega arith)
-  closing-of (atEnd k r end) q = absurd (omega arith)
-  closing-of (atItem n k r head s) q = absurd (item-numbers n k s .1 q)
-  closing-of (atClosing n k r last s) q = (r, last, rw q at s)
+  closing-of : {k : ℕ} → Answer (refused badClosing k) → Reaching k × ClosesAt f ws k × FirstOf (closingReasons f ws vs k) badClosing
+  closing-of {k} a =
+      by-five (why a) (λ (e, none, s). absurd (omega arith)) (λ (e, none, s). absurd (omega arith)) (λ (e, r, end). absurd (omega arith))
+      (λ (r, head, s). absurd (item-numbers badClosing k s .1 refl)) (λ (r, last, s). (r, last, s))
 
   -- ---- which number is given when
 
@@ -92,21 +102,21 @@ module _ (f : Format) (ws vs roll : List ℕ) (index ballots : ℕ) where
 
   -- 1's word limit, and 2
   pub unread-reason : (n : ℕ) → (outcome ≡ unread n) ↔ (FirstOf (startReasons ws roll index ballots) n × (n ≢ badRoll) × (n ≢ emptyBoard))
-  unread-reason n = (λ e. unread-of (told _ .0 e), λ (s, bad, other). told _ .1 (atStart n s bad other))
+  unread-reason n = (λ e. why (told _ .0 e), λ (s, bad, other). told _ .1 (atStart n s bad other))
 
   -- 20
   pub roll-reason : (k : ℕ) → (outcome ≡ refused badRoll k) ↔ (FirstOf (startReasons ws roll index ballots) badRoll × (k ≡ 0))
-  roll-reason k = (λ e. roll-of (told _ .0 e) refl, λ (s, none). rw none (told _ .1 (atRoll s)))
+  roll-reason k = (λ e. roll-of (told _ .0 e), λ (s, none). rw none (told _ .1 (atRoll s)))
 
   -- 3
   pub empty-reason : (k : ℕ) → (outcome ≡ refused emptyBoard k) ↔ (FirstOf (startReasons ws roll index ballots) emptyBoard × (k ≡ 0))
-  empty-reason k = (λ e. empty-of (told _ .0 e) refl, λ (s, none). rw none (told _ .1 (atEmpty s)))
+  empty-reason k = (λ e. empty-of (told _ .0 e), λ (s, none). rw none (told _ .1 (atEmpty s)))
 
   -- 4: there is no word behind the first k items, or item k + 1 runs past the end
   pub truncated-reason : (k : ℕ) → (outcome ≡ refused truncated k)
       ↔ (Reaching k × (EndsAt f ws k ⊎ (HeadAt f ws k × FirstOf (itemReasons f (onRoll roll) ws vs k) truncated)))
   truncated-reason k = (
-    λ e. truncated-of (told _ .0 e) refl,
+    λ e. truncated-of (told _ .0 e),
     λ (r, why). told _ .1 (⊎-elim (atEnd k r) (λ (head, s). atItem truncated k r head s) why),
   )
 
@@ -117,4 +127,4 @@ module _ (f : Format) (ws vs roll : List ℕ) (index ballots : ℕ) where
 
   -- 18
   pub closing-reason : (k : ℕ) → (outcome ≡ refused badClosing k) ↔ (Reaching k × ClosesAt f ws k × FirstOf (closingReasons f ws vs k) badClosing)
-  closing-reason k = (λ e. closing-of (told _ .0 e) refl, λ (r, last, s). told _ .1 (atClosing badClosing k r last s))
+  closing-reason k = (λ e. closing-of (told _ .0 e), λ (r, last, s). told _ .1 (atClosing badClosing k r last s))

@@ -2,7 +2,7 @@
 -- Paper: "Comparing takes a kept board". Assumes nothing.
 use Prim.Native.Nat.{ℕ, _≤_}
 use native.Mathlib.Omega.{arith}
-use mathlib.Core.Path.{_≡_, refl, ap, _∙_}
+use mathlib.Core.Path.{_≡_, refl, sym, ap, ap₂, subst, _∙_}
 use mathlib.Core.Logic.{_↔_, _≢_, Iff·trans, _⊎_, inl, inr, ⊎-elim}
 use mathlib.Core.List.{List}
 use lib.ListN.{length, length-map}
@@ -15,14 +15,19 @@ use Rattle.model.specs.Report.{reportOf, outside, Refuses, NoSuch}
 use Rattle.model.specs.Sound.{Sound}
 use Rattle.model.specs.Compare.{Comparison, apart, same, compare}
 use Rattle.model.specs.Alone.{SameStart}
-use Rattle.model.specs.Comparing.{keptBoard, laterBoard, refusedBoard, compared, answerLater, comparingAnswer, laterAfter, laterIndexAfter, laterBallotsAfter, Answered}
+use Rattle.model.specs.Comparing.{Board, ComparingAnswer, keptBoard, laterBoard, refusedBoard, compared, answerLater, comparingAnswer, laterAfter, laterIndexAfter, laterBallotsAfter, Answered}
 use Rattle.model.proofs.Tests.{tests, by-if, if-no, if-yes, neither}
 use Rattle.model.proofs.Lists.{count-keep}
 use Rattle.model.proofs.Parts.{map-take}
 use Rattle.model.proofs.Alone.{same-start}
 use Rattle.model.proofs.Comparison.{OneHash, end-is, widths-met, comparing}
-use Rattle.model.proofs.Acceptance.{accepted↔sound}
+use Rattle.model.proofs.Acceptance.{not-unread, not-refused, accepted↔sound}
 use Rattle.model.proofs.Report.{tables-keep, Numbered, audit-numbered}
+
+-- the comparison that an answer gives
+abbrev comparisonOf : ComparingAnswer → Comparison
+comparisonOf (refusedBoard c n k) = apart
+comparisonOf (compared x) = x
 
 -- ---- two accepted boards, and a main number of the later one
 
@@ -45,7 +50,7 @@ module _ {f f′ : Format} (one-hash : OneHash f f′) {kb kv kr lb lv lr : List
   answered =
       let c = comparing kept one-hash later b one inside in
       let is : (x : Comparison) → (comparingAnswer (accepted g) (accepted h) b ≡ compared x) ↔ (compare (mainItems g) (mainItems h) b ≡ x) =
-      λ x. (λ e. cc answer-is, λ e. answer-is ∙ ap compared e) in
+      λ x. (λ e. ap comparisonOf (sym answer-is ∙ e), λ e. answer-is ∙ ap compared e) in
       record {
         apart-is = rw (← end-is kept) (Iff·trans (is _) (c .apart-is));
         same-is = Iff·trans (is _) (c .same-is);
@@ -61,22 +66,51 @@ module _ {f f′ : Format} (one-hash : OneHash f f′) {kb kv kr lb lv lr : List
 
 -- ---- which board a refusal names
 
+-- a refusal is no comparison, and one of the later board none of the kept board
+abbrev IsRefusal : ComparingAnswer → Type 0
+IsRefusal (refusedBoard c n k) = Unit
+IsRefusal (compared c) = ⊥
+
+refuses : {c : Board} {n k : ℕ} {x : Comparison} → refusedBoard c n k ≡ compared x → ⊥
+refuses e = subst IsRefusal e tt
+
+abbrev IsLater : ComparingAnswer → Type 0
+IsLater (refusedBoard keptBoard n k) = ⊥
+IsLater (refusedBoard laterBoard n k) = Unit
+IsLater (compared c) = ⊥
+
+other : {m i n k : ℕ} → refusedBoard laterBoard m i ≡ refusedBoard keptBoard n k → ⊥
+other e = subst IsLater e tt
+
+-- the number and the items of a refusal
+abbrev numberOf : ComparingAnswer → ℕ
+numberOf (refusedBoard c n k) = n
+numberOf (compared c) = 0
+
+abbrev itemsOf : ComparingAnswer → ℕ
+itemsOf (refusedBoard c n k) = k
+itemsOf (compared c) = 0
+
 -- an accepted kept board is not named
 not-kept : (g : History) (later : Outcome) (b n k : ℕ) → answerLater g later b ≡ refusedBoard keptBoard n k → ⊥
 unfolding answerLater
-not-kept g (unread m) b n k e = let z : _≡_ {A = ℕ} 0 1 = cc in omega arith
-not-kept g (refused m i) b n k e = let z : _≡_ {A = ℕ} 0 1 = cc in omega arith
+not-kept g (unread m) b n k e = other e
+not-kept g (refused m i) b n k e = other e
 not-kept g (accepted h) b n k e =
-    by-if (λ r. r ≡ refusedBoard keptBoard n k → ⊥) (outside b (count main h)) _ _
-    (λ t e. let z : _≡_ {A = ℕ} 0 1 = cc in omega arith)
-    (λ t e. let z : _≡_ {A = ℕ} 0 1 = cc in omega arith)
-    e
+    by-if (λ r. r ≡ refusedBoard keptBoard n k → ⊥) (outside b (count main h)) _ _ (λ t e. other e) (λ t e. refuses (sym e)) e
 
 module _ (f : Format) (b n k : ℕ) where
+  -- the outcome's own refusal
+  named : {o : Outcome} {c d : Board} → 1 ≤ reportOf f o .number → refusedBoard c (reportOf f o .number) (reportOf f o .items) ≡ refusedBoard d n k
+      → Refuses f o n k
+  named some e =
+      let same = ap numberOf e in
+      record { refusal = subst (1 ≤_) same some; number = same; items = ap itemsOf e }
+
   kept-named : (kept later : Outcome) → Numbered kept → (comparingAnswer kept later b ≡ refusedBoard keptBoard n k) ↔ Refuses f kept n k
   unfolding comparingAnswer reportOf
-  kept-named (unread m) later some = (λ e. let q : m ≡ n = cc in record { refusal = omega arith; number = q; items = cc }, λ r. cc)
-  kept-named (refused m i) later some = (λ e. let q : m ≡ n = cc in record { refusal = omega arith; number = q; items = cc }, λ r. cc)
+  kept-named (unread m) later some = (named some, λ r. ap₂ (refusedBoard keptBoard) (r .number) (r .items))
+  kept-named (refused m i) later some = (named some, λ r. ap₂ (refusedBoard keptBoard) (r .number) (r .items))
   kept-named (accepted g) later some = (λ e. absurd (not-kept g later b n k e), λ r. absurd (omega arith))
 
   -- with an accepted kept board, the later one is named with its own refusal, or with 19
@@ -84,17 +118,17 @@ module _ (f : Format) (b n k : ℕ) where
       → (answerLater g later b ≡ refusedBoard laterBoard n k) ↔ (Refuses f later n k ⊎ NoSuch (count main) later b n k)
   unfolding answerLater reportOf
   later-named g (unread m) some = (
-    λ e. let q : m ≡ n = cc in inl (record { refusal = omega arith; number = q; items = cc }),
-    ⊎-elim (λ r. cc) (λ s. let z : _≡_ {A = ℕ} 0 1 = cc in absurd (omega arith)),
+    λ e. inl (named some e),
+    ⊎-elim (λ r. ap₂ (refusedBoard laterBoard) (r .number) (r .items)) (λ s. absurd (not-unread (s .accepts))),
   )
   later-named g (refused m i) some = (
-    λ e. let q : m ≡ n = cc in inl (record { refusal = omega arith; number = q; items = cc }),
-    ⊎-elim (λ r. cc) (λ s. let z : _≡_ {A = ℕ} 0 1 = cc in absurd (omega arith)),
+    λ e. inl (named some e),
+    ⊎-elim (λ r. ap₂ (refusedBoard laterBoard) (r .number) (r .items)) (λ s. absurd (not-refused (s .accepts))),
   )
   later-named g (accepted h) some = (
     by-if (λ r. r ≡ refusedBoard laterBoard n k → Refuses f (accepted h) n k ⊎ NoSuch (count main) (accepted h) b n k) (outside b (count main h)) _ _
-        (λ t e. inr (record { history = h; accepts = refl; isOutside = t; number = cc; items = cc }))
-        (λ t e. let z : _≡_ {A = ℕ} 0 1 = cc in absurd (omega arith)),
+        (λ t e. inr (record { history = h; accepts = refl; isOutside = t; number = sym (ap numberOf e); items = sym (ap itemsOf e) }))
+        (λ t e. absurd (refuses (sym e))),
     ⊎-elim (λ r. absurd (omega arith))
         (λ s. let same : s .history ≡ h = cc in if-yes (outside b (count main h)) _ _ (rw same at (s .isOutside)) ∙ cc),
   )
@@ -102,14 +136,8 @@ module _ (f : Format) (b n k : ℕ) where
   later-named-after : (kept later : Outcome) → Numbered later
       → (comparingAnswer kept later b ≡ refusedBoard laterBoard n k) ↔ ((g : History) × (kept ≡ accepted g) × (Refuses f later n k ⊎ NoSuch (count main) later b n k))
   unfolding comparingAnswer
-  later-named-after (unread m) later some = (
-    λ e. let z : _≡_ {A = ℕ} 0 1 = cc in absurd (omega arith),
-    λ (g, e, r). let z : _≡_ {A = ℕ} 0 1 = cc in absurd (omega arith),
-  )
-  later-named-after (refused m i) later some = (
-    λ e. let z : _≡_ {A = ℕ} 0 1 = cc in absurd (omega arith),
-    λ (g, e, r). let z : _≡_ {A = ℕ} 0 1 = cc in absurd (omega arith),
-  )
+  later-named-after (unread m) later some = (λ e. absurd (other (sym e)), λ (g, e, r). absurd (not-unread e))
+  later-named-after (refused m i) later some = (λ e. absurd (other (sym e)), λ (g, e, r). absurd (not-refused e))
   later-named-after (accepted g) later some = (λ e. (g, refl, later-named g later some .0 e), λ (g′, e, r). later-named g later some .1 r)
 
 -- ---- an answer other than a refusal: both boards are accepted, and b is a main number of the later one
@@ -117,19 +145,19 @@ module _ (f : Format) (b n k : ℕ) where
 inside-later : (g : History) (later : Outcome) (b : ℕ) (c : Comparison) → answerLater g later b ≡ compared c
     → (h : History) × (later ≡ accepted h) × (1 ≤ b) × (b ≤ count main h)
 unfolding answerLater
-inside-later g (unread n) b c e = let z : _≡_ {A = ℕ} 0 1 = cc in absurd (omega arith)
-inside-later g (refused n k) b c e = let z : _≡_ {A = ℕ} 0 1 = cc in absurd (omega arith)
+inside-later g (unread n) b c e = absurd (refuses e)
+inside-later g (refused n k) b c e = absurd (refuses e)
 inside-later g (accepted h) b c e =
     by-if (λ r. r ≡ compared c → (i : History) × (accepted h ≡ accepted i) × (1 ≤ b) × (b ≤ count main i)) (outside b (count main h)) _ _
-    (λ t q. let z : _≡_ {A = ℕ} 0 1 = cc in absurd (omega arith))
+    (λ t q. absurd (refuses q))
     (λ t q. let n = simp neither at t in (h, refl, omega (arith, tests), omega (arith, tests)))
     e
 
 pub compares-only : (kept later : Outcome) (b : ℕ) (c : Comparison) → comparingAnswer kept later b ≡ compared c
     → (g : History) × (h : History) × (kept ≡ accepted g) × (later ≡ accepted h) × (1 ≤ b) × (b ≤ count main h)
 unfolding comparingAnswer
-compares-only (unread n) later b c e = let z : _≡_ {A = ℕ} 0 1 = cc in absurd (omega arith)
-compares-only (refused n k) later b c e = let z : _≡_ {A = ℕ} 0 1 = cc in absurd (omega arith)
+compares-only (unread n) later b c e = absurd (refuses e)
+compares-only (refused n k) later b c e = absurd (refuses e)
 compares-only (accepted g) later b c e = let (h, q, one, all) = inside-later g later b c e in (g, h, refl, q, one, all)
 
 -- ---- the tables

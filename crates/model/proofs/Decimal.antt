@@ -2,14 +2,14 @@
 -- Paper: "Numbers are decimal". Assumes nothing.
 use Prim.Native.Nat.{ℕ, zero, suc, _/_, _%_, _^_, _≤_, _<_}
 use native.Mathlib.Omega.{arith}
-use mathlib.Core.Path.{_≡_, refl, sym, _∙_}
+use mathlib.Core.Path.{_≡_, refl, sym, ap, _∙_}
 use mathlib.Core.Logic.{_≢_}
 use mathlib.Core.List.{List, [], _∷_, _++_}
 use lib.ListN.{length, getD, length-append, List·getD-append}
 use lib.Dec.{ltb}
 use borrow.Author.Tests.{ltb-false, lt-ltb}
 use Rattle.model.specs.Program.{digit, digits, decimal, valueFrom}
-use Rattle.model.proofs.Tests.{by-test}
+use Rattle.model.proofs.Tests.{by-test, by-if}
 
 -- a number has at most as many digits as itself, and one
 pub enough : (n : ℕ) → n < 10 ^ suc n
@@ -21,13 +21,27 @@ unfolding valueFrom
 value-append n [] es = refl
 value-append n (d ∷ ds) es = value-append _ ds es
 
+one-digit : (n : ℕ) → valueFrom 0 (digit n ∷ []) ≡ n
+unfolding valueFrom
+one-digit n = omega arith
+
+last-digit : (n : ℕ) → n < 10 ^ 1 → valueFrom 0 (digit (n % 10) ∷ []) ≡ n
+unfolding valueFrom
+last-digit n l = omega arith
+
+next-digit : (n : ℕ) → valueFrom (n / 10) (digit (n % 10) ∷ []) ≡ n
+unfolding valueFrom
+next-digit n = omega arith
+
+shorter : (k n : ℕ) → n < 10 ^ suc (suc k) → n / 10 < 10 ^ suc k
+shorter k n l = omega arith
+
 digits-value : (k n : ℕ) → n < 10 ^ suc k → valueFrom 0 (digits k n) ≡ n
 unfolding digits valueFrom
-digits-value zero n l = omega arith
+digits-value zero n l = last-digit n l
 digits-value (suc k) n l =
-    by-test (ltb n 10)
-    (λ q. rw q (omega arith))
-    (λ q. rw (q, value-append, digits-value k (n / 10) (omega arith)) (omega arith))
+    by-if (λ (ds : List ℕ). valueFrom 0 ds ≡ n) (ltb n 10) _ _ (λ t. one-digit n)
+    (λ t. value-append 0 (digits k (n / 10)) _ ∙ ap (λ (m : ℕ). valueFrom m (digit (n % 10) ∷ [])) (digits-value k (n / 10) (shorter k n l)) ∙ next-digit n)
 
 digits-some : (k n : ℕ) → 1 ≤ length (digits k n)
 unfolding digits
@@ -40,7 +54,7 @@ digits-lead zero n l o e = omega arith
 digits-lead (suc k) n l o e =
     by-test (ltb n 10)
     (λ q. let lead = rw q at e in omega arith)
-    (λ q. digits-lead k (n / 10) (omega arith) (omega (arith, ltb-false n 10 q)) (rw (q, List·getD-append (digits k (n / 10)) _ 0 0 (digits-some k (n / 10))) at e))
+    (λ q. digits-lead k (n / 10) (shorter k n l) (omega (arith, ltb-false n 10 q)) (rw (q, List·getD-append (digits k (n / 10)) _ 0 0 (digits-some k (n / 10))) at e))
 
 -- one digit
 digits-short : (k n : ℕ) → n < 10 → digits k n ≡ digit n ∷ []

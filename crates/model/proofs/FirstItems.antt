@@ -4,21 +4,21 @@ use Prim.Native.Nat.{ℕ, zero, suc, _+_, _*_, _≤_, _<_, zero-le}
 use native.Mathlib.Nat.{not-suc-le-zero}
 use native.Mathlib.Decide.{decLe}
 use native.Mathlib.Omega.{arith}
-use mathlib.Core.Path.{_≡_, refl, sym, ap, _∙_}
+use mathlib.Core.Path.{_≡_, refl, sym, ap, subst, subst₂, _∙_}
 use mathlib.Core.Logic.{_↔_, by-cases}
 use mathlib.Core.Bool.{not}
 use mathlib.Core.Option.{Option, none, some}
-use mathlib.Core.List.{List, _++_, append-assoc}
+use mathlib.Core.List.{List, [], _∷_, _++_, append-assoc}
 use lib.ListN.{length, getD, take, drop, take-append-drop, length-append}
 use lib.Seq.{drop-at, length-take-le}
-use lib.Dec.{ltb}
+use lib.Dec.{T, leb, ltb}
 use Rattle.model.specs.Lists.{part}
 use Rattle.model.specs.Words.{countOf, closingKind}
 use Rattle.model.specs.Refusal.{noFault}
 use Rattle.model.specs.Format.{Format, verdictSize}
 use Rattle.model.specs.Item.{Item, itemAt, itemLength, behind, wordsOf}
 use Rattle.model.specs.Types.{Row, rowOf, fits}
-use Rattle.model.specs.History.{History, placeOf, history}
+use Rattle.model.specs.History.{History, entryOf, placeOf, history}
 use Rattle.model.specs.Roll.{Eligibility}
 use Rattle.model.specs.Audit.{Check, checks, faultIn, fault, itemLimit, verdictOf}
 use Rattle.model.specs.Sound.{Meets, Passed, next, Beginning}
@@ -57,7 +57,8 @@ module _ (f : Format) (on : Eligibility) (ws vs : List ℕ) (k : ℕ) where
       let fit : behind f ws here ≤ length ws = omega (arith, tests) in
       by-checks Goal rules
       (λ met d. (fit, meets f on _ _ (itemAt f ws here) (record { row = r; found = q }) (not-not fitting .0 t) (shaped-at f ws here fit) met))
-      (numbers-map (λ n. 1 ≤ n) Goal (λ n l d. absurd (omega arith)) rules (omega arith)))
+      (numbers-map (λ n. T (leb 1 n)) Goal (λ n l d. absurd (subst (λ (m : ℕ). T (leb 1 m)) d l)) rules
+      (tt, (tt, (tt, (tt, (tt, (tt, (tt, (tt, (tt, (tt, (tt, tt)))))))))))))
       e
 
   -- so where no reason applies to it, and only there
@@ -112,10 +113,11 @@ module _ {f : Format} {on : Eligibility} {u vu v : List ℕ} {h : History} {i : 
 passed-first : {f : Format} {on : Eligibility} {u vu : List ℕ} {h : History} → Passed f on u vu h → (rest vrest : List ℕ) → length h ≤ itemLimit
     → PassedFirst f on (u ++ rest) (vu ++ vrest) (length h)
 passed-first Passed.none rest vrest few j l = absurd (not-suc-le-zero l)
-passed-first {f} (next u vu h v i p m) rest vrest few j l =
-    let small = simp length-append at few in
-    let less = simp length-append at l in
-    rw (append-assoc u (wordsOf i) rest, append-assoc vu v vrest)
+passed-first {f} {on} (next u vu h v i p m) rest vrest few j l =
+    let size = length-append h (entryOf h (length u) i ∷ []) in
+    let small = subst (_≤ itemLimit) size few in
+    let less = subst (j <_) size l in
+    subst₂ (λ (us ts : List ℕ). HeadAt f us j × NoneOf (itemReasons f on us ts j)) (sym (append-assoc u (wordsOf i) rest)) (sym (append-assoc vu v vrest))
     (by-cases (decLe (suc j) (length h))
     (λ n. passed-first p (wordsOf i ++ rest) (v ++ vrest) (omega arith) j n)
     (λ n. let same : j ≡ length h = omega arith in rw same (next-passes p m rest vrest (omega arith))))

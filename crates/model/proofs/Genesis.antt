@@ -1,11 +1,11 @@
 -- The first item of a sound board is a genesis, and the format of the board is the one that its traits say. Paper: requests (v), (ix).
 -- Assumes nothing.
-use Prim.Native.Nat.{ℕ, zero, suc, _+_, _-_, _*_, _/_, _%_, _^_, _≤_, _<_}
+use Prim.Native.Nat.{ℕ, zero, suc, _+_, _-_, _*_, _%_, _^_, _≤_, _<_}
 use native.Mathlib.Nat.{not-suc-le-zero}
 use native.Mathlib.Omega.{arith}
 use mathlib.Core.Path.{_≡_, refl, sym, ap, _∙_, subst}
 use mathlib.Core.Logic.{_≢_, _↔_}
-use mathlib.Core.Bool.{Bool, true, false, _&&_, and-true}
+use mathlib.Core.Bool.{Bool, _&&_}
 use mathlib.Core.List.{List, [], _∷_, _++_}
 use lib.ListN.{length, getD, take, drop, length-take, length-drop, List·getD-eq-default}
 use lib.Seq.{getD-take, getD-drop, take-all}
@@ -16,7 +16,7 @@ use Rattle.model.specs.Words.{kindOf, codeOf, countOf, closingWord, pair
 use Rattle.model.specs.Format.{Format, Hashes}
 use Rattle.model.specs.Traits.{traitsHead, traitsKnown, traitsOf, formatWith, formatOf}
 use Rattle.model.specs.Item.{Item, itemAt, code, word}
-use Rattle.model.specs.Types.{setAndEach, table, Listed, fits}
+use Rattle.model.specs.Types.{table, Listed, fits}
 use Rattle.model.specs.History.{History, Entry, entry, entryOf, itemNo, main, mainItem, placeOf, sessionContests}
 use Rattle.model.specs.Phase.{roundContests, roundStart, roundEnd}
 use Rattle.model.specs.Content.{mayVote, cryptogramsOk, genesisTraits, genesisOk, contestOk, thresholdOk, authorizerOk, roundOk, sessionOk, commitmentOk, ballotOk, fingerprintOk, trusteesOk, contentOk}
@@ -27,7 +27,7 @@ use Rattle.model.proofs.Tests.{by-test, is-true, and-iff, leb-iff, eq�
 use Rattle.model.proofs.Traits.{known-few}
 use Rattle.model.proofs.Sets.{set-all, set-counts}
 use Rattle.model.proofs.Numbers.{entry-append}
-use Rattle.model.proofs.Rules.{content-rules}
+use Rattle.model.proofs.Rules.{content-rules, andNothing, alone}
 use Rattle.model.proofs.Table.{main-code, countType, count-type-law, countWithin, count-within-law, countSet, set-count-law}
 use Rattle.model.proofs.Entries.{Orderly, typed-main, first-genesis, orderly}
 use Rattle.model.proofs.Keys.{session-count}
@@ -130,12 +130,12 @@ module _ (s : Hashes) where
 
 module _ (f : Format) (h : History) (i : Item) where
   genesis-content : code i ≡ 1 → contentOk f h i ≡ traitsKnown (word 17 i)
-  unfolding contentOk genesisOk contestOk thresholdOk authorizerOk roundOk sessionOk commitmentOk ballotOk fingerprintOk trusteesOk _⇒_
-  genesis-content c = rw c (simp and-true)
+  unfolding contentOk genesisOk contestOk thresholdOk authorizerOk roundOk sessionOk commitmentOk ballotOk fingerprintOk trusteesOk _⇒_ andNothing
+  genesis-content c = rw c (alone 9 _)
 
   contest-content : code i ≡ 3 → contentOk f h i ≡ ltb (word 0 i) (32 * f .sets)
-  unfolding contentOk genesisOk contestOk thresholdOk authorizerOk roundOk sessionOk commitmentOk ballotOk fingerprintOk trusteesOk _⇒_
-  contest-content c = rw c (simp and-true)
+  unfolding contentOk genesisOk contestOk thresholdOk authorizerOk roundOk sessionOk commitmentOk ballotOk fingerprintOk trusteesOk _⇒_ andNothing
+  contest-content c = rw c (alone 8 _)
 
   pub genesis-traits : code i ≡ 1 → T (contentOk f h i) ↔ (word 17 i < 6)
   genesis-traits c = rw (genesis-content c) (known-few (word 17 i))
@@ -166,8 +166,8 @@ module _ (f : Format) (h : History) (i : Item) where
 
   ballot-content : code i ≡ 19
       → contentOk f h i ≡ (size-is && allIn contests (mayVote h i) && cryptogramsOk (f .sets) (f .cryptogram) (size contests) (i .content))
-  unfolding contentOk genesisOk contestOk thresholdOk authorizerOk roundOk sessionOk commitmentOk ballotOk fingerprintOk trusteesOk _⇒_
-  ballot-content c = rw c (simp and-true)
+  unfolding contentOk genesisOk contestOk thresholdOk authorizerOk roundOk sessionOk commitmentOk ballotOk fingerprintOk trusteesOk _⇒_ andNothing
+  ballot-content c = rw c (alone 2 _)
 
   pub ballot-passes : code i ≡ 19 → T (contentOk f h i)
       ↔ ((length (i .content) ≡ f .sets + size contests * f .cryptogram)
@@ -192,6 +192,9 @@ pub round-count : (f : Format) → T (countType f 6 (5 + f .sets))
 unfolding countType table
 round-count f = rw (eq-eqb (5 + f .sets) (5 + f .sets) refl) tt
 
+round-ends : (n w : ℕ) → n ≡ 5 + w → (n - 5 ≡ w) × (n - 4 ≡ 1 + w) × (n - 2 ≡ 3 + w)
+round-ends n w e = (omega arith, omega arith, omega arith)
+
 module _ {f : Format} {i : Item} (s : Shaped f i) (l : Listed f (i .head)) (c : T (fits (l .row .counts) (countOf (i .head)))) where
   words-are : (t n : ℕ) → T (countType f t n) → code i ≡ t → length (i .content) ≡ n
   words-are t n b q = s .content ∙ count-type-law t n (countOf (i .head)) b l q c
@@ -200,10 +203,9 @@ module _ {f : Format} {i : Item} (s : Shaped f i) (l : Listed f (i .head)) (c : 
       × (roundContests i ≡ part 1 (f .sets) content) × (roundStart i ≡ pair (part (1 + f .sets) 2 content)) × (roundEnd i ≡ pair (part (3 + f .sets) 2 content))
   round-parts q =
       let n = words-are 6 (5 + f .sets) (round-count f) q in
-      let set : length (i .content) - 5 ≡ f .sets = omega arith in
-      let start : length (i .content) - 4 ≡ 1 + f .sets = omega arith in
-      let end : length (i .content) - 2 ≡ 3 + f .sets = omega arith in
-      (n, rw set refl, rw start refl, rw end refl)
+      let c = i .content in
+      let (set, start, end) = round-ends (length c) (f .sets) n in
+      (n, ap (λ (k : ℕ). part 1 k c) set, ap (λ (k : ℕ). pair (part k 2 c)) start, ap (λ (k : ℕ). pair (part k 2 c)) end)
 
   pub session-parts : code i ≡ 16 → (length (i .content) ≡ 18 + f .sets) × (sessionContests i ≡ part 18 (f .sets) (i .content))
   unfolding part

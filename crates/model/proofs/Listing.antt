@@ -3,7 +3,7 @@
 use Prim.Native.Nat.{ℕ, zero, suc, _-_, _≤_}
 use native.Mathlib.Nat.{sub-zero}
 use native.Mathlib.Omega.{arith}
-use mathlib.Core.Path.{_≡_, refl, sym, ap, _∙_}
+use mathlib.Core.Path.{_≡_, refl, sym, ap, ap₂, subst, _∙_}
 use mathlib.Core.Logic.{_↔_, _⊎_, inl, inr, ⊎-elim}
 use mathlib.Core.Bool.{not, _||_}
 use mathlib.Core.List.{List, []}
@@ -16,12 +16,29 @@ use Rattle.model.specs.Roll.{Eligibility}
 use Rattle.model.specs.Audit.{Outcome, unread, refused, accepted, audit, isTooLarge, isShort, indexNeed, ballotNeed}
 use Rattle.model.specs.Report.{reportOf, Refuses, NoSuch, filled, tableAfter, indexAfter, ballotsAfter, outside}
 use Rattle.model.specs.Sound.{Sound, Passed}
-use Rattle.model.specs.Ancestry.{ancestry, listNeed, ancestryAudit, unlisted, listed, ancestryAnswer, written, listAfter, Line, ends, climbs, HoldsAncestry}
+use Rattle.model.specs.Ancestry.{ancestry, listNeed, AncestryAnswer, ancestryAudit, unlisted, listed, ancestryAnswer, written, listAfter, Line, ends, climbs, HoldsAncestry}
 use Rattle.model.proofs.Tests.{tests, by-if, if-no, if-yes, neither, or-else}
-use Rattle.model.proofs.Acceptance.{accepted↔sound}
+use Rattle.model.proofs.Acceptance.{not-unread, not-refused, accepted↔sound}
 use Rattle.model.proofs.Ancestry.{ancestry-line, line-length}
 use Rattle.model.proofs.Tables.{length-filled, getD-filled}
 use Rattle.model.proofs.Report.{Numbered, audit-numbered, filled-rows, filled-rest, table-keeps, table-unchanged, table-zero, table-filled, tables-keep}
+
+-- a refusal is no list
+abbrev IsListed : AncestryAnswer → Type 0
+IsListed (unlisted n i) = ⊥
+IsListed (listed n) = Unit
+
+not-listed : {m i n : ℕ} → unlisted m i ≡ listed n → ⊥
+not-listed e = subst IsListed (sym e) tt
+
+-- the number and the items of a refusal
+abbrev numberOf : AncestryAnswer → ℕ
+numberOf (unlisted n i) = n
+numberOf (listed n) = 0
+
+abbrev itemsOf : AncestryAnswer → ℕ
+itemsOf (unlisted n i) = i
+itemsOf (listed n) = 0
 
 -- ---- the audit of this entry: 1, then 2 for any of the three buffers, then the rest
 
@@ -59,8 +76,8 @@ module _ (f : Format) (ws vs roll : List ℕ) (index ballots list : ℕ) where
       → (ancestryAudit f ws vs roll index ballots list ≡ accepted h) ↔ (Sound f ws vs roll h × (indexNeed ≤ index) × (ballotNeed ≤ ballots) × (listNeed ≤ list))
   accepted-listing h = (
     by-audit (λ o. o ≡ accepted h → Sound f ws vs roll h × (indexNeed ≤ index) × (ballotNeed ≤ ballots) × (listNeed ≤ list))
-        (λ e. let z : _≡_ {A = ℕ} 0 1 = cc in absurd (omega arith))
-        (λ e. let z : _≡_ {A = ℕ} 0 1 = cc in absurd (omega arith))
+        (λ e. absurd (not-unread e))
+        (λ e. absurd (not-unread e))
         (λ l e. let (sound, wide, roomy) = accepted↔sound f ws vs roll index ballots h .0 e in (sound, wide, roomy, l)),
     λ (sound, wide, roomy, l). as-audited l ∙ accepted↔sound f ws vs roll index ballots h .1 (sound, wide, roomy),
   )
@@ -68,20 +85,20 @@ module _ (f : Format) (ws vs roll : List ℕ) (index ballots list : ℕ) where
 -- ---- the answer
 
 module _ (f : Format) (k n i : ℕ) where
+  -- the outcome's own refusal
+  named : {o : Outcome} → 1 ≤ reportOf f o .number → unlisted (reportOf f o .number) (reportOf f o .items) ≡ unlisted n i → Refuses f o n i
+  named some e =
+      let same = ap numberOf e in
+      record { refusal = subst (1 ≤_) same some; number = same; items = ap itemsOf e }
+
   pub unlisted-is : (o : Outcome) → Numbered o → (ancestryAnswer o k ≡ unlisted n i) ↔ (Refuses f o n i ⊎ NoSuch length o k n i)
   unfolding ancestryAnswer reportOf
-  unlisted-is (unread m) some = (
-    λ e. let q : m ≡ n = cc in inl (record { refusal = omega arith; number = q; items = cc }),
-    ⊎-elim (λ r. cc) (λ s. let z : _≡_ {A = ℕ} 0 1 = cc in absurd (omega arith)),
-  )
-  unlisted-is (refused m j) some = (
-    λ e. let q : m ≡ n = cc in inl (record { refusal = omega arith; number = q; items = cc }),
-    ⊎-elim (λ r. cc) (λ s. let z : _≡_ {A = ℕ} 0 1 = cc in absurd (omega arith)),
-  )
+  unlisted-is (unread m) some = (λ e. inl (named some e), ⊎-elim (λ r. ap₂ unlisted (r .number) (r .items)) (λ s. absurd (not-unread (s .accepts))))
+  unlisted-is (refused m j) some = (λ e. inl (named some e), ⊎-elim (λ r. ap₂ unlisted (r .number) (r .items)) (λ s. absurd (not-refused (s .accepts))))
   unlisted-is (accepted h) some = (
     by-if (λ r. r ≡ unlisted n i → Refuses f (accepted h) n i ⊎ NoSuch length (accepted h) k n i) (outside k (length h)) _ _
-        (λ t e. inr (record { history = h; accepts = refl; isOutside = t; number = cc; items = cc }))
-        (λ t e. let z : _≡_ {A = ℕ} 0 1 = cc in absurd (omega arith)),
+        (λ t e. inr (record { history = h; accepts = refl; isOutside = t; number = sym (ap numberOf e); items = sym (ap itemsOf e) }))
+        (λ t e. absurd (not-listed (sym e))),
     ⊎-elim (λ r. absurd (omega arith))
         (λ s. let same : s .history ≡ h = cc in if-yes (outside k (length h)) _ _ (rw same at (s .isOutside)) ∙ cc),
   )
@@ -89,11 +106,11 @@ module _ (f : Format) (k n i : ℕ) where
 -- a list is answered of an accepted board's items only
 pub lists-only : (o : Outcome) (k n : ℕ) → ancestryAnswer o k ≡ listed n → (h : History) × (o ≡ accepted h) × (1 ≤ k) × (k ≤ length h)
 unfolding ancestryAnswer
-lists-only (unread m) k n e = let z : _≡_ {A = ℕ} 0 1 = cc in absurd (omega arith)
-lists-only (refused m i) k n e = let z : _≡_ {A = ℕ} 0 1 = cc in absurd (omega arith)
+lists-only (unread m) k n e = absurd (not-listed e)
+lists-only (refused m i) k n e = absurd (not-listed e)
 lists-only (accepted h) k n e =
     by-if (λ r. r ≡ listed n → (i : History) × (accepted h ≡ accepted i) × (1 ≤ k) × (k ≤ length i)) (outside k (length h)) _ _
-    (λ t q. let z : _≡_ {A = ℕ} 0 1 = cc in absurd (omega arith))
+    (λ t q. absurd (not-listed q))
     (λ t q. let m = simp neither at t in (h, refl, omega (arith, tests), omega (arith, tests)))
     e
 

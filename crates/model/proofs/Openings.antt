@@ -1,15 +1,15 @@
 -- Voter openings: what check 11 asks of one, and that an opened ballot was spoiled first, so it is never counted.
 -- Paper: request (iv). Assumes nothing.
-use Prim.Native.Nat.{ℕ, zero, suc, _≤_, _<_}
-use native.Mathlib.Nat.{not-suc-le-zero, le-refl}
+use Prim.Native.Nat.{ℕ, zero, suc, _≤_, _<_, suc-le-suc}
+use native.Mathlib.Nat.{not-suc-le-zero, le-refl, le-of-suc-le}
 use native.Mathlib.Omega.{arith}
-use mathlib.Core.Path.{_≡_, sym, ap, _∙_}
+use mathlib.Core.Path.{_≡_, sym, ap, subst, _∙_}
 use mathlib.Core.Logic.{_≢_, _↔_}
 use mathlib.Core.Bool.{Bool, or-true}
 use mathlib.Core.List.{List}
 use lib.ListN.{length, take}
 use lib.Seq.{take-all, length-take-le}
-use lib.Dec.{T, eqb, eqb→eq}
+use lib.Dec.{T, eqb, eqb→eq, lit≤}
 use borrow.Author.Tests.{eq-eqb, ne-eqb}
 use Rattle.model.specs.Lists.{_⇒_, any}
 use Rattle.model.specs.Words.{between, codeOf}
@@ -33,6 +33,10 @@ use Rattle.model.proofs.Ancestry.{parent-of, numbered}
 use Rattle.model.proofs.Once.{any-before, one-under-ballot}
 use Rattle.model.proofs.Closers.{closer-closes, closer-of}
 use Rattle.model.proofs.Rows.{counted-casts}
+
+-- an item of a type that is some number
+type-some : {n m : ℕ} → n ≡ m → 1 ≤ m → 1 ≤ n
+type-some e l = subst (1 ≤_) (sym e) l
 
 -- ---- a spoil under item k
 
@@ -152,13 +156,13 @@ module _ {f : Format} {on : Eligibility} {ws vs : List ℕ} {h : History} (p : P
       → (s : ℕ) × (s < o) × (code (itemNo h s) ≡ spoilType) × (entry h s .parent ≡ ballot o)
   opened-spoiled zero c = absurd (not-suc-le-zero (entry-inside h 0 (omega arith) .0))
   opened-spoiled (suc o) c =
-      let (one, all) = entry-inside h (suc o) (omega arith) in
+      let (one, all) = entry-inside h (suc o) (type-some c (lit≤ tt)) in
       let (s, type, up) = opening-phase (take o h) (itemNo h (suc o)) c .0 (made-at p o all .meets .phase) in
-      let inside = entry-inside (take o h) s (omega arith) .1 in
-      let long = length-take-le o h (omega arith) in
-      let here = entry-take h o s (omega arith) (omega arith) in
+      let (least, inside) = entry-inside (take o h) s (type-some type (lit≤ tt)) in
+      let few = subst (s ≤_) (length-take-le o h (le-of-suc-le all)) inside in
+      let here = entry-take h o s few (le-of-suc-le all) in
       let kind : code (itemNo h s) ≡ spoilType = ap (λ (e : Entry). code (e .item)) (sym here) ∙ type in
-      (s, omega arith, kind, ap (λ (e : Entry). e .parent) (sym here) ∙ up ∙ same-ballot o all c)
+      (s, suc-le-suc few, kind, ap (λ (e : Entry). e .parent) (sym here) ∙ up ∙ same-ballot o all c)
 
   -- so no cast stands under it
   pub opened-uncast : (o c : ℕ) → code (itemNo h o) ≡ voterOpeningType → code (itemNo h c) ≡ castType → entry h c .parent ≢ ballot o

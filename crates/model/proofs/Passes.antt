@@ -1,13 +1,13 @@
 -- What check 6 says of each type, and check 13 of thresholds, rounds, sessions, commitments, confirmations and the contests of a ballot, for sets of any
 -- number of words. Paper: "Item types", "Content", requests (v), (ix). Assumes nothing.
-use Prim.Native.Nat.{ℕ, zero, suc, _+_, _-_, _*_, _%_, _^_, _≤_, _<_}
-use native.Mathlib.Nat.{le-refl, not-suc-le-zero}
+use Prim.Native.Nat.{ℕ, zero, suc, _+_, _-_, _*_, _%_, _^_, _≤_, _<_, suc-le-suc}
+use native.Mathlib.Nat.{le-refl, not-suc-le-zero, le-of-suc-le-suc, zero-lt-suc}
 use native.Mathlib.Omega.{arith}
-use mathlib.Core.Path.{_≡_, refl, sym}
+use mathlib.Core.Path.{_≡_, refl, sym, subst}
 use mathlib.Core.Logic.{_≢_, _↔_, _⊎_, ⊎-elim}
-use mathlib.Core.Bool.{Bool, true, false, and-true, not, _&&_}
+use mathlib.Core.Bool.{Bool, true, false, _&&_, _||_}
 use mathlib.Core.List.{List, [], _∷_, map}
-use lib.ListN.{length, getD, take}
+use lib.ListN.{length, getD}
 use lib.Seq.{take-all}
 use lib.Dec.{T, eqb, leb, ltb, eqb→eq}
 use borrow.Author.Tests.{eqb-true}
@@ -17,12 +17,13 @@ use Rattle.model.specs.Format.{Format, Hashes, secp256r1, secp384r1, sec
 use Rattle.model.specs.Traits.{formatOf}
 use Rattle.model.specs.Item.{Item, code, time, word}
 use Rattle.model.specs.Types.{Counts, from_to_, setAndEach, Row, table}
-use Rattle.model.specs.History.{History, Entry, absent, entry, itemNo, first, typed, sessionNumber, sessionContests}
+use Rattle.model.specs.History.{History, absent, entry, itemNo, first, typed, sessionNumber, sessionContests}
 use Rattle.model.specs.Counted.{contents, counted}
 use Rattle.model.specs.Phase.{sameRound, rounds, isOpen, roundContests, roundStart, roundEnd}
 use Rattle.model.specs.Content.{defines, contestsOk, enables, mayVote, genesisOk, contestOk, thresholdOk, authorizerOk, roundOk, sessionOk, commitmentOk, ballotOk, fingerprintOk, trusteesOk, contentOk, Defined, Enables}
-use Rattle.model.proofs.Tests.{by-test, passes, is-true, is-false, or-right, eq→eqb, and-iff, eqb-iff, leb-iff, same-iff, facts, tests}
-use Rattle.model.proofs.Lists.{Every}
+use Rattle.model.proofs.Tests.{by-test, passes, by-if, not-iff, or-left, or-right, eq→eqb, and-iff, eqb-iff, leb-iff, same-iff, facts, tests}
+use Rattle.model.proofs.Rules.{andNothing, alone}
+use Rattle.model.proofs.Lists.{Every, every, any-kept}
 use Rattle.model.proofs.Numbers.{entry-inside, first-found}
 use Rattle.model.proofs.State.{any-first}
 use Rattle.model.proofs.Once.{any-before}
@@ -71,8 +72,8 @@ contests-pass h s =
 
 module _ (f : Format) (h : History) (i : Item) where
   round-content : code i ≡ 6 → contentOk f h i ≡ (leb (word 0 i) 15 && ltb (roundStart i) (roundEnd i) && contestsOk h (roundContests i))
-  unfolding contentOk genesisOk contestOk thresholdOk authorizerOk roundOk sessionOk commitmentOk ballotOk fingerprintOk trusteesOk _⇒_
-  round-content c = rw c (simp and-true)
+  unfolding contentOk genesisOk contestOk thresholdOk authorizerOk roundOk sessionOk commitmentOk ballotOk fingerprintOk trusteesOk _⇒_ andNothing
+  round-content c = rw c (alone 5 _)
 
   pub round-passes : code i ≡ 6 → T (contentOk f h i)
       ↔ ((word 0 i ≤ 15) × (roundStart i < roundEnd i) × (1 ≤ size (roundContests i)) × ((j : ℕ) → T (member (roundContests i) j) → Defined h j))
@@ -84,8 +85,8 @@ module _ (f : Format) (h : History) (i : Item) where
       )
 
   session-content : code i ≡ 16 → contentOk f h i ≡ (leb 1 (word 1 i) && contestsOk h (sessionContests i))
-  unfolding contentOk genesisOk contestOk thresholdOk authorizerOk roundOk sessionOk commitmentOk ballotOk fingerprintOk trusteesOk _⇒_
-  session-content c = rw c (simp and-true)
+  unfolding contentOk genesisOk contestOk thresholdOk authorizerOk roundOk sessionOk commitmentOk ballotOk fingerprintOk trusteesOk _⇒_ andNothing
+  session-content c = rw c (alone 4 _)
 
   pub session-passes : code i ≡ 16 → T (contentOk f h i)
       ↔ ((1 ≤ word 1 i) × (1 ≤ size (sessionContests i)) × ((j : ℕ) → T (member (sessionContests i) j) → Defined h j))
@@ -100,8 +101,8 @@ module _ (f : Format) (h : History) (i : Item) where
 
 module _ (f : Format) (h : History) (i : Item) where
   commitment-content : (code i ≡ 17) ⊎ (code i ≡ 18) → contentOk f h i ≡ lowZero (f .spare) (word (f .commitment - 1) i)
-  unfolding contentOk genesisOk contestOk thresholdOk authorizerOk roundOk sessionOk commitmentOk ballotOk fingerprintOk trusteesOk _⇒_
-  commitment-content = ⊎-elim (λ c. rw c (simp and-true)) (λ c. rw c (simp and-true))
+  unfolding contentOk genesisOk contestOk thresholdOk authorizerOk roundOk sessionOk commitmentOk ballotOk fingerprintOk trusteesOk _⇒_ andNothing
+  commitment-content = ⊎-elim (λ c. rw c (alone 3 _)) (λ c. rw c (alone 3 _))
 
   low-bits : (code i ≡ 17) ⊎ (code i ≡ 18) → T (contentOk f h i) ↔ (word (f .commitment - 1) i % 2 ^ f .spare ≡ 0)
   unfolding lowZero
@@ -118,16 +119,16 @@ module _ (s : Hashes) (w : ℕ) (h : History) (i : Item) (c : (code i ≡ 17) �
 
 module _ (s : Hashes) (ws : List ℕ) (h : History) (i : Item) where
   extraction-content : code i ≡ 33 → contentOk (formatOf s ws) h i ≡ sameWords (i .content) (s .sha256 (contents (counted h)))
-  unfolding contentOk genesisOk contestOk thresholdOk authorizerOk roundOk sessionOk commitmentOk ballotOk fingerprintOk trusteesOk _⇒_
-  extraction-content c = rw c (simp and-true)
+  unfolding contentOk genesisOk contestOk thresholdOk authorizerOk roundOk sessionOk commitmentOk ballotOk fingerprintOk trusteesOk _⇒_ andNothing
+  extraction-content c = rw c (alone 1 _)
 
   pub fingerprint-passes : code i ≡ 33 → T (contentOk (formatOf s ws) h i) ↔ (i .content ≡ s .sha256 (contents (counted h)))
   fingerprint-passes c = rw (extraction-content c) (same-iff _ _)
 
 module _ (f : Format) (h : History) (i : Item) where
   threshold-content : code i ≡ 4 → contentOk f h i ≡ (leb 1 (word 1 i) && leb (word 1 i) (word 0 i) && leb (word 0 i) 32)
-  unfolding contentOk genesisOk contestOk thresholdOk authorizerOk roundOk sessionOk commitmentOk ballotOk fingerprintOk trusteesOk _⇒_
-  threshold-content c = rw c (simp and-true)
+  unfolding contentOk genesisOk contestOk thresholdOk authorizerOk roundOk sessionOk commitmentOk ballotOk fingerprintOk trusteesOk _⇒_ andNothing
+  threshold-content c = rw c (alone 7 _)
 
   -- 4: 1 ≤ t ≤ m ≤ 32, at either width
   pub threshold-passes : code i ≡ 4 → T (contentOk f h i) ↔ ((1 ≤ word 1 i) × (word 1 i ≤ word 0 i) × (word 0 i ≤ 32))
@@ -138,8 +139,8 @@ module _ (f : Format) (h : History) (i : Item) where
       )
 
   authorizer-content : code i ≡ 5 → contentOk f h i ≡ (leb 1 (word 0 i) && leb (word 0 i) 2)
-  unfolding contentOk genesisOk contestOk thresholdOk authorizerOk roundOk sessionOk commitmentOk ballotOk fingerprintOk trusteesOk _⇒_
-  authorizer-content c = rw c (simp and-true)
+  unfolding contentOk genesisOk contestOk thresholdOk authorizerOk roundOk sessionOk commitmentOk ballotOk fingerprintOk trusteesOk _⇒_ andNothing
+  authorizer-content c = rw c (alone 6 _)
 
   -- 5: mode 1 or 2
   pub authorizer-passes : code i ≡ 5 → T (contentOk f h i) ↔ ((1 ≤ word 0 i) × (word 0 i ≤ 2))
@@ -180,6 +181,10 @@ module _ (f : Format) (h : History) (i : Item) where
 
 -- ---- the rounds in force, by number
 
+either : {X : Type 0} (a b : Bool) → (T a → X) → (T b → X) → T (a || b) → X
+either true b g k t = g tt
+either false b g k t = k t
+
 module _ {A B : Type 0} (q : A → Bool) (f : A → B) (r : B → B → Bool) (p : B → Bool) (d : A) where
   -- no later element that is kept replaces element k
   abbrev Last : List A → ℕ → Type 0
@@ -189,60 +194,69 @@ module _ {A B : Type 0} (q : A → Bool) (f : A → B) (r : B → B → Bool) (p
   abbrev Stays : List A → ℕ → Type 0
   Stays xs k = (k < length xs) × T (q (getD xs k d)) × T (p (f (getD xs k d))) × Last xs k
 
-  none-kept : (g : B → Bool) (xs : List A) → any g (keep q f xs) ≡ false → (n : ℕ) → n < length xs → T (q (getD xs n d)) → T (g (f (getD xs n d))) → ⊥
-  unfolding any keep if_then_else_
-  none-kept g [] e n l a b = absurd (not-suc-le-zero l)
-  none-kept g (x ∷ xs) e zero l a b = absurd (passes (sym (rw (is-true (q x) a, is-true (g (f x)) b) at e)))
-  none-kept g (x ∷ xs) e (suc n) l a b =
-      by-test (q x)
-      (λ s. by-test (g (f x)) (λ t. absurd (passes (sym (rw (s, t) at e)))) (λ t. none-kept g xs (rw (s, t) at e) n (omega arith) a b))
-      (λ s. none-kept g xs (rw s at e) n (omega arith) a b)
+  -- an element that passes is found, and one that is found passes
+  at : (g : A → Bool) (xs : List A) (n : ℕ) → n < length xs → T (g (getD xs n d)) → T (any g xs)
+  unfolding any
+  at g [] n l t = absurd (not-suc-le-zero l)
+  at g (x ∷ xs) zero l t = or-left (g x) (any g xs) t
+  at g (x ∷ xs) (suc n) l t = or-right (g x) (any g xs) (at g xs n (le-of-suc-le-suc l) t)
+
+  one : (g : A → Bool) (xs : List A) → T (any g xs) → (n : ℕ) × (n < length xs) × T (g (getD xs n d))
+  unfolding any
+  one g [] t = absurd t
+  one g (x ∷ xs) t =
+      by-test (g x) (λ c. (0, zero-lt-suc (length xs), passes c)) (λ c. let (n, l, a) = one g xs (rw c at t) in (suc n, suc-le-suc l, a))
+
+  any-both : (g : B → Bool) (xs : List A) → any (λ x. q x && g (f x)) xs ≡ any g (keep q f xs)
+  any-both g xs = any-kept q f g (λ x. q x && g (f x)) xs (every _ (λ x. refl) xs)
+
+  none-kept : (g : B → Bool) (xs : List A) → (T (any g (keep q f xs)) → ⊥) → (n : ℕ) → n < length xs → T (q (getD xs n d)) → T (g (f (getD xs n d))) → ⊥
+  none-kept g xs e n l a b =
+      e (subst T (any-both g xs) (at (λ x. q x && g (f x)) xs n l (and-iff (q (getD xs n d)) (g (f (getD xs n d))) .1 (a, b))))
 
   found : (g : B → Bool) (xs : List A) → T (any g (keep q f xs)) → (n : ℕ) × (n < length xs) × T (q (getD xs n d)) × T (g (f (getD xs n d)))
-  unfolding any keep if_then_else_
-  found g [] t = absurd t
-  found g (x ∷ xs) t =
-      by-test (q x)
-      (λ s. by-test (g (f x))
-      (λ c. (0, omega arith, passes s, passes c))
-      (λ c. let (n, l, a, b) = found g xs (rw (s, c) at t) in (suc n, omega arith, a, b)))
-      (λ s. let (n, l, a, b) = found g xs (rw s at t) in (suc n, omega arith, a, b))
+  found g xs t =
+      let (n, l, u) = one (λ x. q x && g (f x)) xs (subst T (sym (any-both g xs)) t) in
+      let (a, b) = and-iff (q (getD xs n d)) (g (f (getD xs n d))) .0 u in
+      (n, l, a, b)
 
-  last-first : (x : A) (xs : List A) → any (r (f x)) (keep q f xs) ≡ false → Last (x ∷ xs) 0
+  last-first : (x : A) (xs : List A) → (T (any (r (f x)) (keep q f xs)) → ⊥) → Last (x ∷ xs) 0
   last-first x xs e zero l m a b = absurd (not-suc-le-zero l)
-  last-first x xs e (suc n) l m a b = none-kept (r (f x)) xs e n (omega arith) a b
+  last-first x xs e (suc n) l m a b = none-kept (r (f x)) xs e n (le-of-suc-le-suc m) a b
 
   last-next : (x : A) (xs : List A) (k : ℕ) → Last xs k → Last (x ∷ xs) (suc k)
   last-next x xs k s zero l m a b = absurd (not-suc-le-zero l)
-  last-next x xs k s (suc n) l m a b = s n (omega arith) (omega arith) a b
+  last-next x xs k s (suc n) l m a b = s n (le-of-suc-le-suc l) (le-of-suc-le-suc m) a b
 
   further : (x : A) (xs : List A) → (k : ℕ) × Stays xs k → (k : ℕ) × Stays (x ∷ xs) k
-  further x xs (k, (l, a, b, s)) = (suc k, (omega arith, a, b, last-next x xs k s))
+  further x xs (k, (l, a, b, s)) = (suc k, (suc-le-suc l, a, b, last-next x xs k s))
 
   stays : (xs : List A) → T (any p (latest r (keep q f xs))) → (k : ℕ) × Stays xs k
   unfolding any keep latest if_then_else_
-  stays [] t = absurd t
-  stays (x ∷ xs) t =
-      by-test (q x)
-      (λ a. by-test (any (r (f x)) (keep q f xs))
-      (λ b. further x xs (stays xs (rw (a, b) at t)))
-      (λ b. by-test (p (f x))
-      (λ c. (0, (omega arith, passes a, passes c, last-first x xs b)))
-      (λ c. further x xs (stays xs (rw (a, b, c) at t)))))
-      (λ a. further x xs (stays xs (rw a at t)))
+  stays [] = λ t. absurd t
+  stays (x ∷ xs) =
+      let Found : Type 0 = (k : ℕ) × Stays (x ∷ xs) k in
+      let replaced = any (r (f x)) (keep q f xs) in
+      by-if (λ (ys : List B). T (any p (latest r ys)) → Found) (q x) _ _
+      (λ a. by-if (λ (ys : List B). T (any p ys) → Found) replaced _ _
+      (λ b t. further x xs (stays xs t))
+      (λ b. either (p (f x)) _ (λ c. (0, (zero-lt-suc (length xs), a, c, last-first x xs (not-iff replaced .0 b)))) (λ t. further x xs (stays xs t))))
+      (λ a t. further x xs (stays xs t))
 
   standing : (xs : List A) (k : ℕ) → Stays xs k → T (any p (latest r (keep q f xs)))
   unfolding any keep latest if_then_else_
   standing [] k (l, a, b, s) = absurd (not-suc-le-zero l)
   standing (x ∷ xs) zero (l, a, b, s) =
-      let none : any (r (f x)) (keep q f xs) ≡ false =
-      is-false (any (r (f x)) (keep q f xs)) (λ t. let (n, m, c, e) = found (r (f x)) xs t in s (suc n) (omega arith) (omega arith) c e) in
-      rw (is-true (q x) a, none, is-true (p (f x)) b) tt
+      by-if (λ (ys : List B). T (any p (latest r ys))) (q x) _ _
+      (λ t. by-if (λ (ys : List B). T (any p ys)) (any (r (f x)) (keep q f xs)) _ _
+      (λ u. let (n, m, c, e) = found (r (f x)) xs u in absurd (s (suc n) (zero-lt-suc n) (suc-le-suc m) c e))
+      (λ u. or-left (p (f x)) _ b))
+      (λ t. absurd (not-iff (q x) .0 t a))
   standing (x ∷ xs) (suc k) (l, a, b, s) =
-      let rest = standing xs k (omega arith, a, b, λ n i m c e. s (suc n) (omega arith) (omega arith) c e) in
-      by-test (q x)
-      (λ c. by-test (any (r (f x)) (keep q f xs)) (λ e. rw (c, e) rest) (λ e. rw (c, e) (or-right (p (f x)) _ rest)))
-      (λ c. rw c rest)
+      let rest = standing xs k (le-of-suc-le-suc l, a, b, λ n i m c e. s (suc n) (suc-le-suc i) (suc-le-suc m) c e) in
+      by-if (λ (ys : List B). T (any p (latest r ys))) (q x) _ _
+      (λ t. by-if (λ (ys : List B). T (any p ys)) (any (r (f x)) (keep q f xs)) _ _ (λ u. rest) (λ u. or-right (p (f x)) _ rest))
+      (λ t. rest)
 
 not-replaced : (h : History) (t j k : ℕ) → Last (typed 6) (λ e. e .item) sameRound (enables t j) absent h k
     → (n : ℕ) → suc k < n → code (itemNo h n) ≡ 6 → word 0 (itemNo h n) ≢ word 0 (itemNo h (suc k))

@@ -1,11 +1,12 @@
 -- What the program prints: it needs of the files only their byte counts and as many words as it has room for, and what it prints for empty
 -- files, for a sound board, and for genesis alone. Paper: "The auditing program". Assumes nothing.
 use Prim.Native.Nat.{ℕ, zero, suc, _*_, _/_, _%_, _≤_, _<_, zero-le}
+use native.Mathlib.Nat.{le-trans}
 use native.Mathlib.Omega.{arith}
 use native.Mathlib.Decide.{decLe}
-use mathlib.Core.Path.{_≡_, refl, sym, ap, _∙_}
+use mathlib.Core.Path.{_≡_, refl, sym, ap, subst, _∙_}
 use mathlib.Core.Logic.{_≢_, _⊎_, ⊎-elim, by-cases}
-use mathlib.Core.Bool.{true, not}
+use mathlib.Core.Bool.{Bool, true, not, _&&_}
 use mathlib.Core.Option.{Option, none, some}
 use mathlib.Core.List.{List, [], _∷_, _++_, append-nil}
 use lib.ListN.{length, getD, take, length-append, length-take}
@@ -16,20 +17,21 @@ use Rattle.model.specs.Lists.{if_then_else_, count, keep, latest}
 use Rattle.model.specs.Words.{countOf}
 use Rattle.model.specs.Refusal.{tooLarge, truncated, badRoll}
 use Rattle.model.specs.Format.{Format, verdictSize}
-use Rattle.model.specs.Item.{itemLength, behind, code}
+use Rattle.model.specs.Item.{itemLength, behind, code, wordsOf}
 use Rattle.model.specs.Types.{Row, rowOf, fits, table}
-use Rattle.model.specs.History.{History, main}
+use Rattle.model.specs.History.{History, Entry, main, entryOf}
 use Rattle.model.specs.Counted.{counted, totalWeight}
 use Rattle.model.specs.Roll.{Eligibility, electors, rising, isBadRoll, onRoll}
 use Rattle.model.specs.Audit.{Outcome, accepted, faultIn, fault, closing, judged, wordAt, items, audit, itemLimit, indexNeed, ballotNeed, isTooLarge}
 use Rattle.model.specs.Report.{reportOf, ballotRows}
-use Rattle.model.specs.Sound.{Passed, next, Sound}
+use Rattle.model.specs.Sound.{Meets, Passed, next, Sound}
 use Rattle.model.specs.Program.{fromBytes, bytesPerWord, programLimit, leastItem, programItems, verdictLimit, rollKept, areWhole, sizeFault, sized, programOutcome, filesOutcome, digits, spaced, refusedLine, acceptedLine, rowLines, textOf, printed}
 use Rattle.model.proofs.Tests.{tests, by-test, is-true, is-false, by-if, if-yes, if-no, and-iff, not-iff, not-not}
 use Rattle.model.proofs.Parts.{part-take}
 use Rattle.model.proofs.Parsing.{length-words}
 use Rattle.model.proofs.Table.{countWithin, count-within-law}
 use Rattle.model.proofs.Entries.{orderly, typed-main, first-genesis}
+use Rattle.model.proofs.SoundAccepted.{no-words}
 use Rattle.model.proofs.Acceptance.{accepted↔sound}
 use Rattle.model.proofs.Roll.{good-roll}
 
@@ -121,11 +123,21 @@ words-cut f ws vs roll least short =
 
 -- ---- how many items
 
+least-more : (h : History) (e : Entry) (ws us : List ℕ) → leastItem * length h ≤ length ws → leastItem ≤ length us
+    → leastItem * length (h ++ (e ∷ [])) ≤ length (ws ++ us)
+least-more h e ws us l m = omega (arith, length-append h (e ∷ []), length-append ws us)
+
+item-least : (f : Format) (n : ℕ) → itemLength f 0 ≤ itemLength f n
+unfolding itemLength
+item-least f n = omega arith
+
 -- items have at least so many words
-words-least : {f : Format} {on : Eligibility} {ws vs : List ℕ} {h : History} → leastItem ≤ itemLength f 0 → Passed f on ws vs h → leastItem * length h ≤ length ws
+pub words-least : {f : Format} {on : Eligibility} {ws vs : List ℕ} {h : History} → leastItem ≤ itemLength f 0 → Passed f on ws vs h → leastItem * length h ≤ length ws
 unfolding itemLength
 words-least least Passed.none = omega arith
-words-least {f} least (next ws vs h v i p m) = simp length-append (omega (arith, words-least least p, length-words f i (m .shaped)))
+words-least {f} least (next ws vs h v i p m) =
+    least-more h (entryOf h (length ws) i) ws (wordsOf i) (words-least least p)
+    (subst (leastItem ≤_) (sym (length-words f i (m .shaped))) (le-trans least (item-least f (countOf (i .head)))))
 
 -- a board that the program takes has at most 381 items
 pub few-items : {f : Format} {ws vs roll : List ℕ} {h : History} → leastItem ≤ itemLength f 0 → Sound f ws vs roll h → length ws ≤ programLimit → length h ≤ programItems
@@ -133,9 +145,12 @@ few-items least s l = omega (arith, words-least least (s .passed), simp length-a
 
 -- ---- files
 
+four-more : (n : ℕ) → suc (n / bytesPerWord) ≡ suc (suc (suc (suc n))) / bytesPerWord
+four-more n = omega arith
+
 pub length-from-bytes : (bs : List ℕ) → length (fromBytes bs) ≡ length bs / bytesPerWord
 unfolding fromBytes
-length-from-bytes (a ∷ b ∷ c ∷ d ∷ rest) = omega (arith, length-from-bytes rest)
+length-from-bytes (a ∷ b ∷ c ∷ d ∷ rest) = ap suc (length-from-bytes rest) ∙ four-more (length rest)
 length-from-bytes (a ∷ b ∷ c ∷ []) = refl
 length-from-bytes (a ∷ b ∷ []) = refl
 length-from-bytes (a ∷ []) = refl
@@ -180,9 +195,11 @@ module _ (f : Format) (board verdicts roll : List ℕ) where
 
   not-whole : (length board % 4 ≢ 0) ⊎ (length verdicts % 4 ≢ 0) ⊎ (length roll % 4 ≢ 0) → T (not (areWhole (length board) (length verdicts) (length roll)))
   not-whole odd =
+      let whole-one : (n : ℕ) → Bool = λ n. eqb (n % bytesPerWord) 0 in
       not-iff (areWhole (length board) (length verdicts) (length roll)) .1 (λ t.
-      let parts = simp and-iff at t in
-      ⊎-elim (λ n. omega (arith, tests, n)) (λ y. ⊎-elim (λ n. omega (arith, tests, n)) (λ n. omega (arith, tests, n)) y) odd)
+      let (two, r) = and-iff (whole-one (length board) && whole-one (length verdicts)) (whole-one (length roll)) .0 t in
+      let (b, v) = and-iff (whole-one (length board)) (whole-one (length verdicts)) .0 two in
+      ⊎-elim (λ n. n (eqb→eq _ 0 b)) (⊎-elim (λ n. n (eqb→eq _ 0 v)) (λ n. n (eqb→eq _ 0 r))) odd)
 
   -- of the files' words, the first 16,384, the first 3,430 and the first 4,097 are enough
   pub files-cut : leastItem ≤ itemLength f 0
@@ -256,13 +273,21 @@ genesis-text {f} (e ∷ []) p one =
     let no-cast = ne-eqb (code (e .item)) 20 (omega arith) in
     rw (mains, no-cast, append-nil)
 
+no-item : (h : History) (e : Entry) → length (h ++ (e ∷ [])) ≡ 1 → 1 ≤ length h → ⊥
+no-item h e one l = omega (arith, length-append h (e ∷ []))
+
+empty : (h : History) → (1 ≤ length h → ⊥) → h ≡ []
+empty [] l = refl
+empty (e ∷ es) l = absurd (l (omega arith))
+
 genesis-words : {f : Format} {on : Eligibility} {ws vs : List ℕ} {h : History} → Passed f on ws vs h → length h ≡ 1 → length ws ≤ itemLength f 18
 unfolding countWithin table itemLength
-genesis-words Passed.none one = absurd (omega arith)
-genesis-words (next ws vs h v i (next ws′ vs′ h′ v′ i′ p n) m) one = absurd (omega (arith, simp length-append at one))
-genesis-words {f} (next ws vs h v i Passed.none m) one =
-    let count = count-within-law 1 17 18 (countOf (i .head)) tt (m .listed) (eqb→eq (code i) 1 (first-genesis m)) (m .counted) in
-    omega (arith, length-words f i (m .shaped))
+genesis-words Passed.none one = zero-le
+genesis-words {f} {on} (next ws vs h v i p m) one =
+    let few = no-item h (entryOf h (length ws) i) one in
+    let first = subst (λ (g : History). Meets f on g v i) (empty h few) m in
+    let count = count-within-law 1 17 18 (countOf (i .head)) tt (m .listed) (eqb→eq (code i) 1 (first-genesis first)) (m .counted) in
+    rw (no-words p few) (omega (arith, length-words f i (m .shaped)))
 
 -- "A sound board of genesis alone prints `accepted 1 1 0 0`."
 pub genesis-printed : (f : Format) (board verdicts roll : List ℕ) {h : History} → itemLength f 18 < programLimit

@@ -4,7 +4,7 @@ use Prim.Native.Nat.{ℕ, zero, suc, _+_, _≤_, _<_}
 use native.Mathlib.Nat.{not-suc-le-zero}
 use native.Mathlib.Omega.{arith}
 use native.Mathlib.Decide.{decLe}
-use mathlib.Core.Path.{_≡_, refl, sym, subst, _∙_}
+use mathlib.Core.Path.{_≡_, refl, sym, ap, subst, _∙_}
 use mathlib.Core.Logic.{_≢_, _↔_, by-cases}
 use mathlib.Core.Bool.{not}
 use mathlib.Core.Option.{Option, none, some}
@@ -21,7 +21,7 @@ use Rattle.model.specs.History.{placeOf, history}
 use Rattle.model.specs.Roll.{Eligibility, isBadRoll, onRoll}
 use Rattle.model.specs.Audit.{Outcome, unread, refused, accepted, Check, firstUnmet, checks, faultIn, fault, closing, judged, items, audit, itemLimit, isTooLarge, isShort, isEmpty, closingOk}
 use Rattle.model.specs.Reasons.{Reason, NoneOf, FirstOf, startReasons, listedWith, ClosesAt, HeadAt, itemReasons, closingReasons, Reached, Answers, atStart, atRoll, atEmpty, atEnd, atItem, atClosing, acceptance}
-use Rattle.model.proofs.Tests.{tests, by-test, passes, neither, if-yes, if-no}
+use Rattle.model.proofs.Tests.{tests, by-test, passes, neither, ne→neqb, if-yes, if-no, if-both}
 use Rattle.model.proofs.FirstReason.{firstNumber, by-first, none-number, first-number, every-first}
 use Rattle.model.proofs.Unchecked.{length-history}
 use Rattle.model.proofs.Steps.{itemsFrom, judged-refused, items-start, items-ended, items-closing, items-full, items-refused, items-passed}
@@ -86,39 +86,53 @@ module _ (f : Format) (on : Eligibility) (ws vs : List ℕ) (k : ℕ) where
       ≡ judged f ws vs (firstNumber (closingReasons f ws vs k)) (history f ws k) (accepted (history f ws k))
   unfolding closing judged closingReasons firstNumber
   closing-number =
-      by-test (not (closingOk ws vs (history f ws k) (placeOf f ws k)))
-      (λ q. rw q)
-      (λ q. rw q)
+      let h = history f ws k in
+      sym (if-both (λ (n : ℕ). judged f ws vs n h (accepted h)) (not (closingOk ws vs h (placeOf f ws k))) refl refl)
 
   closing-refused : (n : ℕ) → ClosesAt f ws k → FirstOf (closingReasons f ws vs k) n → after k ≡ refused n k
   unfolding closingReasons
   closing-refused n (there, last) s =
       let some = every-first (λ m. m ≢ noFault) (omega arith) s in
       items-closing f on ws vs k there last ∙ closing-number
-      ∙ rw (first-number s) (judged-refused f ws vs n (history f ws k) _ some ∙ rw (length-history f ws k))
+      ∙ ap (λ (m : ℕ). judged f ws vs m (history f ws k) (accepted (history f ws k))) (first-number s)
+      ∙ judged-refused f ws vs n (history f ws k) _ some ∙ ap (refused n) (length-history f ws k)
 
   closing-accepted : ClosesAt f ws k → NoneOf (closingReasons f ws vs k) → after k ≡ accepted (history f ws k)
   unfolding judged
-  closing-accepted (there, last) u = items-closing f on ws vs k there last ∙ closing-number ∙ rw (none-number _ u)
+  closing-accepted (there, last) u = items-closing f on ws vs k there last ∙ closing-number
+      ∙ ap (λ (m : ℕ). judged f ws vs m (history f ws k) (accepted (history f ws k))) (none-number _ u)
+
+-- before the items
+startAnswer : ℕ → Outcome → Outcome
+unfolding if_then_else_
+startAnswer n o = if eqb n noFault then o else if eqb n badRoll then refused badRoll 0 else if eqb n emptyBoard then refused emptyBoard 0 else unread n
+
+start-unread : (n : ℕ) (o : Outcome) → n ≢ noFault → n ≢ badRoll → n ≢ emptyBoard → startAnswer n o ≡ unread n
+unfolding startAnswer
+start-unread n o other good full =
+    if-no (eqb n noFault) _ _ (ne→neqb n noFault other)
+    ∙ if-no (eqb n badRoll) _ _ (ne→neqb n badRoll good)
+    ∙ if-no (eqb n emptyBoard) _ _ (ne→neqb n emptyBoard full)
 
 module _ (f : Format) (ws vs roll : List ℕ) (index ballots : ℕ) where
-  -- before the items
-  startAnswer : ℕ → Outcome → Outcome
-  unfolding if_then_else_
-  startAnswer n o = if eqb n noFault then o else if eqb n badRoll then refused badRoll 0 else if eqb n emptyBoard then refused emptyBoard 0 else unread n
+  -- what the audit of the items gives
+  abbrev itemsAnswer : Outcome
+  itemsAnswer = items f (onRoll roll) ws vs itemLimit [] 0
 
-  start-number : audit f ws vs roll index ballots ≡ startAnswer (firstNumber (startReasons ws roll index ballots)) (items f (onRoll roll) ws vs itemLimit [] 0)
+  start-number : audit f ws vs roll index ballots ≡ startAnswer (firstNumber (startReasons ws roll index ballots)) itemsAnswer
   unfolding audit startAnswer startReasons firstNumber
   start-number =
-      by-test (isTooLarge ws) (λ q. rw q)
-      (λ q. rw q (by-test (isShort index ballots) (λ s. rw s)
-      (λ s. rw s (by-test (isBadRoll roll) (λ b. rw b)
-      (λ b. rw b (by-test (isEmpty ws) (λ t. rw t) (λ t. rw t)))))))
+      let answer : ℕ → Outcome = λ n. startAnswer n itemsAnswer in
+      sym (if-both answer (isTooLarge ws) refl (if-both answer (isShort index ballots) refl
+      (if-both answer (isBadRoll roll) refl (if-both answer (isEmpty ws) refl refl))))
+
+  start-first : (n : ℕ) → FirstOf (startReasons ws roll index ballots) n → audit f ws vs roll index ballots ≡ startAnswer n itemsAnswer
+  start-first n s = start-number ∙ ap (λ (m : ℕ). startAnswer m itemsAnswer) (first-number s)
 
   -- the first k items pass
   reached : (k : ℕ) → Reached f ws vs roll index ballots k → audit f ws vs roll index ballots ≡ itemsFrom f (onRoll roll) ws vs k
   unfolding startAnswer
-  reached zero r = start-number ∙ rw (none-number _ (r .started)) (items-start f (onRoll roll) ws vs)
+  reached zero r = start-number ∙ ap (λ (m : ℕ). startAnswer m itemsAnswer) (none-number _ (r .started)) ∙ items-start f (onRoll roll) ws vs
   reached (suc k) r =
       let last = r .passed k (omega arith) in
       let before : Reached f ws vs roll index ballots k = record { started = r .started; passed = λ j l. r .passed j (omega arith) } in
@@ -127,11 +141,9 @@ module _ (f : Format) (ws vs roll : List ℕ) (index ballots : ℕ) where
   answered : {o : Outcome} → Answers f ws vs roll index ballots o → audit f ws vs roll index ballots ≡ o
   unfolding startAnswer startReasons
   answered (atStart n s bad other) =
-      let some = every-first (λ m. m ≢ noFault) (omega arith) s in
-      start-number ∙ rw (first-number s) (if-no (eqb n noFault) _ _ (omega (arith, tests))
-      ∙ if-no (eqb n badRoll) _ _ (omega (arith, tests)) ∙ if-no (eqb n emptyBoard) _ _ (omega (arith, tests)))
-  answered (atRoll s) = start-number ∙ rw (first-number s)
-  answered (atEmpty s) = start-number ∙ rw (first-number s)
+      start-first n s ∙ start-unread n itemsAnswer (every-first (λ m. m ≢ noFault) (omega arith) s) bad other
+  answered (atRoll s) = start-first badRoll s
+  answered (atEmpty s) = start-first emptyBoard s
   answered (atEnd k r end) = reached k r ∙ items-ended f (onRoll roll) ws vs k end
   answered (atItem n k r head s) = reached k r ∙ item-refused f (onRoll roll) ws vs k n head s
   answered (atClosing n k r last s) = reached k r ∙ closing-refused f (onRoll roll) ws vs k n last s

@@ -1,32 +1,36 @@
 -- The roll: every session names a pair of it, all sessions of a voter have one weight, and the counted ballots weigh no more than the roll.
 -- Paper: request (i). Assumes nothing.
-use Prim.Native.Nat.{ℕ, zero, suc, _+_, _*_, _/_, _%_, _≤_, _<_, zero-le}
-use native.Mathlib.Nat.{not-suc-le-zero}
+use Prim.Native.Nat.{ℕ, zero, suc, _+_, _*_, _/_, _%_, _≤_, _<_, zero-le, suc-le-suc}
+use native.Mathlib.Nat.{not-suc-le-zero, le-of-suc-le-suc, zero-lt-suc, lt-trans}
 use native.Mathlib.Omega.{arith}
-use mathlib.Core.Path.{_≡_, refl, sym, ap, _∙_}
+use mathlib.Core.Path.{_≡_, refl, sym, ap, subst, subst₂, _∙_}
 use mathlib.Core.Logic.{_≢_, _↔_}
-use mathlib.Core.Bool.{false, not}
+use mathlib.Core.Bool.{false, not, _||_}
 use mathlib.Core.List.{List, [], _∷_, map}
 use lib.ListN.{length, getD}
-use lib.Dec.{T, eqb, ltb, eqb→eq, eqb-refl, ltb→lt}
+use lib.Arith.{le→nltb}
+use lib.Dec.{T, eqb, ltb, eqb→eq, eqb-refl, ltb→lt, nltb→le, lt→ltb}
 use borrow.Author.Tests.{ne-eqb}
 use Rattle.model.specs.Lists.{if_then_else_, _⇒_, any, has, distinct}
 use Rattle.model.specs.Format.{Format}
 use Rattle.model.specs.Item.{Item, code}
 use Rattle.model.specs.History.{History, itemNo, typed, sessionVoter, sessionWeight}
 use Rattle.model.specs.Counted.{Vote, voteOf, votesIn, sameVoter, counted, totalWeight, voters}
-use Rattle.model.specs.Roll.{Elector, Eligibility, electors, rising, voterNumbers, isBadRoll, GoodRoll, names, onRoll, onRollOk, rollWeight, PairAt}
+use Rattle.model.specs.Roll.{Elector, Eligibility, rollRow, rollLimit, electors, rising, voterNumbers, isBadRoll, GoodRoll, names, onRoll, onRollOk, rollWeight, PairAt}
 use Rattle.model.specs.Sound.{Passed, Sound}
-use Rattle.model.proofs.Tests.{tests, by-test, passes, is-false, and-iff, implies-iff, not-iff, not-not, neither, or-left, or-right}
+use Rattle.model.proofs.Tests.{by-test, passes, is-false, and-iff, implies-iff, not-iff, not-not, neither, or-left, or-right, eq→eqb}
 use Rattle.model.proofs.Lists.{Every, every-map, every-keep, every-latest}
 use Rattle.model.proofs.Numbers.{entry-inside}
 use Rattle.model.proofs.Entries.{each-fine, cast-session, orderly}
 use Rattle.model.proofs.Votes.{counted-distinct}
 use Rattle.model.proofs.Beginnings.{made-at}
 
+two-more : (n : ℕ) → suc (n / 2) ≡ suc (suc n) / 2
+two-more n = omega arith
+
 pub length-electors : (roll : List ℕ) → length (electors roll) ≡ length roll / 2
 unfolding electors
-length-electors (v ∷ w ∷ roll) = omega (arith, length-electors roll)
+length-electors (v ∷ w ∷ roll) = ap suc (length-electors roll) ∙ two-more (length roll)
 length-electors (v ∷ []) = refl
 length-electors [] = refl
 
@@ -131,6 +135,15 @@ abbrev weightAt : List ℕ → ℕ → ℕ
 weightAt roll p = getD roll (2 * p + 1) 0
 
 -- with a pair put in front, every pair is one further
+pair-later : (p n : ℕ) → 2 * p + 1 < n → 2 * suc p + 1 < suc (suc n)
+pair-later p n l = omega arith
+
+pair-before : (p n : ℕ) → 2 * suc p + 1 < suc (suc n) → 2 * p + 1 < n
+pair-before p n l = omega arith
+
+no-pair : (p : ℕ) → 2 * p + 1 < 1 → ⊥
+no-pair p l = omega arith
+
 voter-next : (a b : ℕ) (roll : List ℕ) (p : ℕ) → voterAt (a ∷ b ∷ roll) (suc p) ≡ voterAt roll p
 voter-next a b roll p = let place : 2 * suc p ≡ suc (suc (2 * p)) = omega arith in ap (λ (n : ℕ). getD (a ∷ b ∷ roll) n 0) place
 
@@ -144,19 +157,19 @@ pair-named [] v w t = absurd t
 pair-named (a ∷ []) v w t = absurd t
 pair-named (a ∷ b ∷ roll) v w t =
     by-test (names v w (record { voter = a; weight = b }))
-    (λ q. let (x, y) = names-parts v w (record { voter = a; weight = b }) (passes q) in (0, (omega arith, x, y)))
-    (λ q. let (p, (l, x, y)) = pair-named roll v w (rw q at t) in (suc p, (omega arith, voter-next a b roll p ∙ x, weight-next a b roll p ∙ y)))
+    (λ q. let (x, y) = names-parts v w (record { voter = a; weight = b }) (passes q) in (0, (suc-le-suc (zero-lt-suc (length roll)), x, y)))
+    (λ q. let (p, (l, x, y)) = pair-named roll v w (rw q at t) in (suc p, (pair-later p (length roll) l, voter-next a b roll p ∙ x, weight-next a b roll p ∙ y)))
 
 -- and only they do
 named-pair : (roll : List ℕ) (v w p : ℕ) → PairAt roll v w p → T (onRoll roll v w)
 unfolding onRoll electors any
-named-pair [] v w p (l, x, y) = absurd (omega arith)
-named-pair (a ∷ []) v w p (l, x, y) = absurd (omega arith)
+named-pair [] v w p (l, x, y) = absurd (not-suc-le-zero l)
+named-pair (a ∷ []) v w p (l, x, y) = absurd (no-pair p l)
 named-pair (a ∷ b ∷ roll) v w zero (l, x, y) =
     or-left (names v w (record { voter = a; weight = b })) _ (and-iff (eqb a v) (eqb b w) .1 (rw x (eqb-refl v), rw y (eqb-refl w)))
 named-pair (a ∷ b ∷ roll) v w (suc p) (l, x, y) =
     or-right (names v w (record { voter = a; weight = b })) _
-    (named-pair roll v w p (omega arith, sym (voter-next a b roll p) ∙ x, sym (weight-next a b roll p) ∙ y))
+    (named-pair roll v w p (pair-before p (length roll) l, sym (voter-next a b roll p) ∙ x, sym (weight-next a b roll p) ∙ y))
 
 pub on-roll : (roll : List ℕ) (v w : ℕ) → T (onRoll roll v w) ↔ ((p : ℕ) × PairAt roll v w p)
 on-roll roll v w = (pair-named roll v w, λ (p, here). named-pair roll v w p here)
@@ -164,24 +177,25 @@ on-roll roll v w = (pair-named roll v w, λ (p, here). named-pair roll v w p her
 -- voter numbers that rise: each is less than every later one
 more-than : (u : ℕ) (roll : List ℕ) (k : ℕ) → T (rising (u ∷ voterNumbers roll)) → 2 * k + 1 < length roll → u < voterAt roll k
 unfolding rising electors
-more-than u [] k t l = absurd (omega arith)
-more-than u (a ∷ []) k t l = absurd (omega arith)
+more-than u [] k t l = absurd (not-suc-le-zero l)
+more-than u (a ∷ []) k t l = absurd (no-pair k l)
 more-than u (a ∷ b ∷ roll) zero t l = ltb→lt u a (and-iff (ltb u a) (rising (a ∷ voterNumbers roll)) .0 t .0)
 more-than u (a ∷ b ∷ roll) (suc k) t l =
     let (first, rest) = and-iff (ltb u a) (rising (a ∷ voterNumbers roll)) .0 t in
-    omega (arith, ltb→lt u a first, more-than a roll k rest (omega arith), voter-next a b roll k)
+    lt-trans (ltb→lt u a first) (subst (a <_) (sym (voter-next a b roll k)) (more-than a roll k rest (pair-before k (length roll) l)))
 
 abbrev Rises : List ℕ → Type 0
 Rises roll = (j k : ℕ) → j < k → 2 * k + 1 < length roll → voterAt roll j < voterAt roll k
 
 pub rising-words : (roll : List ℕ) → T (rising (voterNumbers roll)) → Rises roll
 unfolding electors
-rising-words [] t j k m l = absurd (omega arith)
-rising-words (a ∷ []) t j k m l = absurd (omega arith)
-rising-words (a ∷ b ∷ roll) t j zero m l = absurd (omega arith)
-rising-words (a ∷ b ∷ roll) t zero (suc k) m l = omega (arith, more-than a roll k t (omega arith), voter-next a b roll k)
+rising-words [] t j k m l = absurd (not-suc-le-zero l)
+rising-words (a ∷ []) t j k m l = absurd (no-pair k l)
+rising-words (a ∷ b ∷ roll) t j zero m l = absurd (not-suc-le-zero m)
+rising-words (a ∷ b ∷ roll) t zero (suc k) m l = subst (a <_) (sym (voter-next a b roll k)) (more-than a roll k t (pair-before k (length roll) l))
 rising-words (a ∷ b ∷ roll) t (suc j) (suc k) m l =
-    omega (arith, rising-words roll (rising-rest a (voterNumbers roll) t) j k (omega arith) (omega arith), voter-next a b roll j, voter-next a b roll k)
+    subst₂ _<_ (sym (voter-next a b roll j)) (sym (voter-next a b roll k))
+    (rising-words roll (rising-rest a (voterNumbers roll) t) j k (le-of-suc-le-suc m) (pair-before k (length roll) l))
 
 pub words-rising : (roll : List ℕ) → Rises roll → T (rising (voterNumbers roll))
 unfolding rising electors
@@ -191,17 +205,37 @@ words-rising (a ∷ b ∷ []) all = tt
 words-rising (a ∷ b ∷ c ∷ []) all = tt
 words-rising (a ∷ b ∷ c ∷ d ∷ roll) all =
     and-iff (ltb a c) (rising (c ∷ voterNumbers roll)) .1 (
-      omega (arith, tests, all 0 1 (omega arith) (omega arith)),
-      words-rising (c ∷ d ∷ roll) (λ j k m l. omega (arith, all (suc j) (suc k) (omega arith) (omega arith), voter-next a b (c ∷ d ∷ roll) j, voter-next a b (c ∷ d ∷ roll) k)),
+      lt→ltb a c (all 0 1 (zero-lt-suc 0) (pair-later 0 (length (c ∷ d ∷ roll)) (suc-le-suc (zero-lt-suc (length roll))))),
+      words-rising (c ∷ d ∷ roll) (λ j k m l.
+          subst₂ _<_ (voter-next a b (c ∷ d ∷ roll) j) (voter-next a b (c ∷ d ∷ roll) k) (all (suc j) (suc k) (suc-le-suc m) (pair-later k (length (c ∷ d ∷ roll)) l))),
     )
+
+-- at most 2,048 pairs are at most 4,096 words
+even-few : (n m : ℕ) → n % 2 ≡ 0 → m ≤ rollLimit → m ≡ n / 2 → n ≤ 4096
+even-few n m e l q = omega arith
+
+few-even : (n m : ℕ) → n ≤ 4096 → m ≡ n / 2 → m ≤ rollLimit
+few-even n m l q = omega arith
 
 pub good-roll : (roll : List ℕ) → GoodRoll roll ↔ ((length roll % 2 ≡ 0) × (length roll ≤ 4096) × Rises roll)
 unfolding isBadRoll
-good-roll roll = (
-  λ t. let parts = simp (neither, not-not) at t in
-      (omega (arith, tests), omega (arith, tests, length-electors roll), rising-words roll (parts .1)),
-  λ (even, few, rises). simp (neither, not-not) ((omega (arith, tests), omega (arith, tests, length-electors roll)), words-rising roll rises),
-)
+good-roll roll =
+    let odd = not (eqb (length roll % rollRow) 0) in
+    let many = ltb rollLimit (length (electors roll)) in
+    let sorted = rising (voterNumbers roll) in (
+      λ t. let (u, r) = neither (odd || many) (not sorted) .0 t in let (e, m) = neither odd many .0 u in
+          let few = nltb→le rollLimit (length (electors roll)) m in
+          let even : length roll % 2 ≡ 0 = eqb→eq (length roll % rollRow) 0 (not-not (eqb (length roll % rollRow) 0) .0 e) in
+          (even, even-few (length roll) (length (electors roll)) even few (length-electors roll), rising-words roll (not-not sorted .0 r)),
+      λ (even, few, rises).
+          neither (odd || many) (not sorted) .1 (
+            neither odd many .1 (
+              not-not (eqb (length roll % rollRow) 0) .1 (eq→eqb (length roll % rollRow) 0 even),
+              le→nltb rollLimit (length (electors roll)) (few-even (length roll) (length (electors roll)) few (length-electors roll)),
+            ),
+            not-not sorted .1 (words-rising roll rises),
+          ),
+    )
 
 -- check 21
 module _ (roll : List ℕ) (i : Item) where
@@ -216,7 +250,7 @@ module _ (roll : List ℕ) (i : Item) where
 -- ---- of what was passed
 
 module _ {f : Format} {on : Eligibility} {ws vs : List ℕ} {h : History} (b : Passed f on ws vs h) where
-  session-eligible : (k : ℕ) → code (itemNo h k) ≡ 16 → T (on (sessionVoter (itemNo h k)) (sessionWeight (itemNo h k)))
+  pub session-eligible : (k : ℕ) → code (itemNo h k) ≡ 16 → T (on (sessionVoter (itemNo h k)) (sessionWeight (itemNo h k)))
   unfolding onRollOk
   session-eligible zero c = absurd (not-suc-le-zero (entry-inside h zero (rw c (omega arith)) .0))
   session-eligible (suc k) c =
@@ -235,7 +269,7 @@ module _ {f : Format} {ws vs roll : List ℕ} {h : History} (s : Sound f ws vs r
       one-right (sessionVoter (itemNo h k)) _ _ (electors roll) (good-rising roll (s .goodRoll)) (rw same at (session-eligible (s .passed) j cj))
       (session-eligible (s .passed) k ck)
 
-  counted-enrolled : Every (Enrolled (electors roll)) (counted h)
+  pub counted-enrolled : Every (Enrolled (electors roll)) (counted h)
   unfolding counted voteOf onRoll
   counted-enrolled =
       every-latest sameVoter (Enrolled (electors roll)) (votesIn h h)

@@ -1,22 +1,22 @@
 -- Sets of numbers, of any number of words: which numbers they have, how many, and what all of them pass. Paper: "Item types", request (v).
 -- Assumes nothing.
-use Prim.Native.Nat.{ℕ, zero, suc, _+_, _-_, _*_, _/_, _%_, _^_, _≤_, _<_}
-use native.Mathlib.Nat.{not-suc-le-zero, div-one, div-div-eq-div-mul, pow-succ', zero-div, zero-add, add-zero, add-suc, mul-suc, mul-mod-left, mul-le-mul-right, div-add-mod'}
+use Prim.Native.Nat.{ℕ, zero, suc, _+_, _-_, _*_, _/_, _%_, _^_, _≤_, _<_, suc-le-suc}
+use native.Mathlib.Nat.{not-suc-le-zero, zero-lt-suc, div-one, div-div-eq-div-mul, pow-succ', zero-div, add-zero, add-suc, mul-mod-left, mul-le-mul-right, div-add-mod'}
 use native.Mathlib.Decide.{decLe}
 use native.Mathlib.Omega.{arith}
 use mathlib.Core.Path.{_≡_, refl, sym, ap, _∙_}
-use mathlib.Core.Logic.{_↔_, by-cases}
+use mathlib.Core.Logic.{_≢_, _↔_, by-cases}
 use mathlib.Core.Bool.{Bool, false}
 use mathlib.Core.List.{List, [], _∷_}
 use lib.Arith.{digits-div, digits-mod}
 use lib.ListN.{length, getD, List·getD-eq-default}
 use lib.Count.{onesIn}
-use lib.Dec.{T, eqb, ltb}
-use borrow.Author.Tests.{eqb-true, eqb-false, ltb-true, ltb-false}
-use Rattle.model.specs.Lists.{if_then_else_, _⇒_}
+use lib.Dec.{T, eqb}
+use borrow.Author.Tests.{eqb-true, eqb-false}
+use Rattle.model.specs.Lists.{if_then_else_}
 use Rattle.model.specs.Words.{bit, inWords, member, size, everyBelow, countBelow, allIn}
 use Rattle.model.specs.Types.{setAndEach, fits}
-use Rattle.model.proofs.Tests.{by-test, passes, and-iff, implies-iff, facts, tests}
+use Rattle.model.proofs.Tests.{by-test, passes, and-iff, implies-iff, facts}
 
 -- ---- every number below n
 
@@ -71,15 +71,18 @@ ones-count (suc d) w =
     rw (countBelow-low (bit w) d, countBelow-ext d (λ j. bit w (suc j)) (bit (w / 2)) (bit-half w), ← ones-count d (w / 2), bit-low w)
     (by-test (eqb (w % 2) 1) (λ q. rw q (omega (arith, eqb-true (w % 2) 1 q))) (λ q. rw q (omega (arith, eqb-false (w % 2) 1 q))))
 
+rest-some : (w n : ℕ) → w % 2 ≢ 1 → 1 ≤ w % 2 + n → 1 ≤ n
+rest-some w n o l = omega arith
+
 -- a word that is not zero has a number
 ones-member : (d w : ℕ) → 1 ≤ onesIn d w → (j : ℕ) × (j < d) × T (bit w j)
 unfolding onesIn bit
 ones-member zero w l = absurd (not-suc-le-zero l)
 ones-member (suc d) w l =
     by-test (eqb (w % 2) 1)
-    (λ q. (0, omega arith, rw div-one (passes q)))
-    (λ q. let (j, small, in-half) = ones-member d (w / 2) (omega (arith, eqb-false (w % 2) 1 q)) in
-    (suc j, omega arith, rw (pow-succ', ← div-div-eq-div-mul) in-half))
+    (λ q. (0, zero-lt-suc d, rw div-one (passes q)))
+    (λ q. let (j, small, in-half) = ones-member d (w / 2) (rest-some w (onesIn d (w / 2)) (eqb-false (w % 2) 1 q) l) in
+    (suc j, suc-le-suc small, rw (pow-succ', ← div-div-eq-div-mul) in-half))
 
 -- ---- the numbers of a set
 
@@ -129,14 +132,20 @@ set-size (w ∷ s) =
     let rest = countBelow-upTo (32 * length s) (λ j. member (w ∷ s) (32 + j)) (member s) (λ j l. member-next w s j) in
     rw (more, countBelow-add (member (w ∷ s)) 32 (32 * length s), first, rest, ← set-size s, ones-count 32 w)
 
+none-here : (m n : ℕ) → m ≡ 0 → 1 ≤ m + n → 1 ≤ n
+none-here m n e l = omega arith
+
+some-least : (n : ℕ) → n ≢ 0 → 1 ≤ n
+some-least n o = omega arith
+
 -- a set that is not empty has a word that is not zero
 size-some : (s : List ℕ) → 1 ≤ size s → (k : ℕ) × (k < length s) × (1 ≤ onesIn 32 (getD s k 0))
 unfolding size
 size-some [] l = absurd (not-suc-le-zero l)
 size-some (w ∷ s) l =
     by-test (eqb (onesIn 32 w) 0)
-    (λ q. let (k, m, some) = size-some s (omega (arith, eqb-true (onesIn 32 w) 0 q)) in (suc k, omega arith, some))
-    (λ q. (0, omega arith, omega (arith, eqb-false (onesIn 32 w) 0 q)))
+    (λ q. let (k, m, some) = size-some s (none-here (onesIn 32 w) (size s) (eqb-true (onesIn 32 w) 0 q) l) in (suc k, suc-le-suc m, some))
+    (λ q. (0, zero-lt-suc (length s), some-least (onesIn 32 w) (eqb-false (onesIn 32 w) 0 q)))
 
 -- ---- what all its numbers pass
 

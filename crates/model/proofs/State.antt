@@ -1,11 +1,11 @@
 -- One more entry: what the questions to a history answer after it, from what they answered before. A running state that keeps the
 -- answers follows the history by these laws. Assumes nothing.
 use Prim.Native.Nat.{ℕ, suc, _+_}
-use native.Mathlib.Nat.{add-zero}
+use native.Mathlib.Nat.{add-zero, add-suc, suc-add}
 use native.Mathlib.Numerals.{add-one, one-add}
 use native.Mathlib.Omega.{arith}
-use mathlib.Core.Path.{_≡_, refl, ap}
-use mathlib.Core.Bool.{Bool, false, not}
+use mathlib.Core.Path.{_≡_, refl, sym, ap, _∙_}
+use mathlib.Core.Bool.{Bool, true, false, not}
 use mathlib.Core.List.{List, [], _∷_, _++_, append-nil}
 use lib.ListN.{length, length-append}
 use lib.Seq.{getD-append-seam}
@@ -30,16 +30,27 @@ module _ {A : Type 0} (p : A → Bool) (xs : List A) (x : A) where
 
 -- ---- the first and the last that pass a test
 
+-- two choices by one test, and one by another
+choose : (a b : Bool) (u v : ℕ) {l m n n′ : ℕ} → n ≡ n′ → l ≡ (if b then n else u) → m ≡ (if b then n else v)
+    → (if a then l else m) ≡ (if b then n′ else (if a then u else v))
+unfolding if_then_else_
+choose true b u v e p q = p ∙ ap (λ (k : ℕ). if b then k else u) e
+choose false b u v e p q = q ∙ ap (λ (k : ℕ). if b then k else v) e
+
+-- a number that is found stays, and any other is found behind it
+found-first : (a b : Bool) (k g : ℕ) {l n n′ : ℕ} → n ≡ n′ → l ≡ (if eqb g 0 then (if b then n else 0) else g)
+    → (if a then suc k else l) ≡ (if eqb (if a then suc k else g) 0 then (if b then n′ else 0) else (if a then suc k else g))
+unfolding if_then_else_
+found-first true b k g e p = rw (eqb·suc-zero k)
+found-first false b k g e p = p ∙ ap (λ (m : ℕ). if eqb g 0 then (if b then m else 0) else g) e
+
 module _ (p : Entry → Bool) where
   last-from-snoc : (k found : ℕ) (h : History) (e : Entry)
       → lastFrom k found p (h ++ (e ∷ [])) ≡ (if p e then k + length h else lastFrom k found p h)
   unfolding lastFrom if_then_else_
   last-from-snoc k found [] e = rw add-zero
   last-from-snoc k found (x ∷ xs) e =
-      let next : suc k + length xs ≡ k + suc (length xs) = omega arith in
-      by-test (p x)
-      (λ q. rw (q, ← next) (last-from-snoc (suc k) k xs e))
-      (λ q. rw (q, ← next) (last-from-snoc (suc k) found xs e))
+      choose (p x) (p e) _ _ (sym (add-suc k (length xs) ∙ sym (suc-add k (length xs)))) (last-from-snoc (suc k) k xs e) (last-from-snoc (suc k) found xs e)
 
   pub last-snoc : (h : History) (e : Entry) → last p (h ++ (e ∷ [])) ≡ (if p e then suc (length h) else last p h)
   last-snoc h e = rw one-add at (last-from-snoc 1 0 h e)
@@ -50,8 +61,7 @@ module _ (p : Entry → Bool) where
   unfolding firstFrom if_then_else_
   first-from-snoc k [] e = rw add-zero
   first-from-snoc k (x ∷ xs) e =
-      let next : suc (suc k) + length xs ≡ suc k + suc (length xs) = omega arith in
-      by-test (p x) (λ q. rw (q, eqb·suc-zero k)) (λ q. rw (q, ← next) (first-from-snoc (suc k) xs e))
+      found-first (p x) (p e) k (firstFrom (suc (suc k)) p xs) (suc-add (suc k) (length xs) ∙ sym (add-suc (suc k) (length xs))) (first-from-snoc (suc k) xs e)
 
   -- one that was found stays
   pub first-snoc : (h : History) (e : Entry)

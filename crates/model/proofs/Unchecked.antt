@@ -4,14 +4,15 @@ use Prim.Native.Nat.{ℕ, zero, suc, _+_, _≤_, _<_}
 use native.Mathlib.Nat.{not-suc-le-zero}
 use native.Mathlib.Numerals.{add-one}
 use native.Mathlib.Omega.{arith}
-use mathlib.Core.Path.{_≡_, refl, ap, _∙_}
+use mathlib.Core.Path.{_≡_, refl, sym, ap, subst₂, _∙_}
 use mathlib.Core.Logic.{by-cases}
 use native.Mathlib.Decide.{decLe}
 use mathlib.Core.List.{List, [], _∷_, _++_, append-assoc}
 use lib.ListN.{length, getD, take, length-append}
 use lib.Seq.{take-all, take-append-le}
+use Rattle.model.specs.Words.{countOf}
 use Rattle.model.specs.Format.{Format}
-use Rattle.model.specs.Item.{Item, itemAt, wordsOf}
+use Rattle.model.specs.Item.{Item, itemAt, itemLength, behind, wordsOf}
 use Rattle.model.specs.History.{History, entry, entryOf, placeOf, history}
 use Rattle.model.specs.Roll.{Eligibility, onRoll}
 use Rattle.model.specs.Audit.{refused, accepted, audit}
@@ -68,8 +69,15 @@ passed-history {f} (next words vs h v i p m) rest =
     let read : itemAt f ws (length words) ≡ i = item-here f words i rest (m .shaped) in
     let size : length (h ++ (entryOf h (length words) i ∷ [])) ≡ suc (length h) = rw (length-append h _, add-one) in
     let head : getD ws (length words) 0 ≡ i .head = ap (λ (j : Item). j .head) read in
-    rw (append-assoc words (wordsOf i) rest, size)
-    (rw (← same, place, read), rw (place, head, ← length-words f i (m .shaped), length-append words (wordsOf i)))
+    let n = length words in
+    let made : History → ℕ → Item → History = λ g p j. g ++ (entryOf g p j ∷ []) in
+    let at = placeOf f ws (length h) in
+    subst₂ (λ (us : List ℕ) (k : ℕ). (made h n i ≡ history f us k) × (placeOf f us k ≡ length (words ++ wordsOf i)))
+    (sym (append-assoc words (wordsOf i) rest)) (sym size) (
+      ap (made h n) (sym read) ∙ ap (λ (p : ℕ). made h p (itemAt f ws p)) (sym place) ∙ ap (λ (g : History). made g at (itemAt f ws at)) same,
+      ap (behind f ws) place ∙ ap (λ (w : ℕ). n + itemLength f (countOf w)) head
+          ∙ ap (n +_) (sym (length-words f i (m .shaped))) ∙ sym (length-append words (wordsOf i)),
+    )
 
 pub beginning-history : {f : Format} {on : Eligibility} {ws vs : List ℕ} {h : History} → Beginning f on ws vs h → h ≡ history f ws (length h)
 beginning-history b = rw (b .ofWords) (passed-history (b .passed) _ .0)
