@@ -167,15 +167,21 @@ module _ {f : Format} {on : Eligibility} {ws vs : List ℕ} {h : History} {v : L
       let no : closes n new ≡ false = is-false (closes n new) (λ t. let (kind, own) = closes-parts n new t in omega (arith, closing-up kind)) in
       rw (first-snoc (closes n) h new, none, no) (by-test (typed ballotType (entry (longer h new) n)) (λ q. rw q) (λ q. rw q))
 
-  -- a cast or spoil closes its ballot, which is open
-  pub closer-closed : T (castOrSpoil (code i)) → closer (longer h new) (parentNumber h i) ≡ suc (length h)
-  unfolding entryOf underBallotOk parentType table
-  closer-closed t =
+  -- the parent of a cast or spoil is an open ballot
+  pub closes-open : T (castOrSpoil (code i)) → let k = parentNumber h i in T (typed ballotType (entry h k)) × (closer h k ≡ 0)
+  unfolding underBallotOk parentType table
+  closes-open t =
       let k = parentNumber h i in
       let ballot = parent-type m (λ x. eqb x ballotType) (parent-type-law castOrSpoil ballotType tt (m .listed) t) in
       let alone : any (closes k) h ≡ false = is-false (any (closes k) h) (simp (implies-iff, not-iff) at (only-rules (m .only) .underBallot) t) in
-      let unused : closer h k ≡ 0 = eqb-true (closer h k) 0 (not-false (eqb (closer h k) 0) (sym (any-closer b k) ∙ alone)) in
-      closer-set h new k (closing-up t) ballot unused (is-true (closes k new) (closes-own new t))
+      (ballot, eqb-true (closer h k) 0 (not-false (eqb (closer h k) 0) (sym (any-closer b k) ∙ alone)))
+
+  -- which it closes
+  pub closer-closed : T (castOrSpoil (code i)) → closer (longer h new) (parentNumber h i) ≡ suc (length h)
+  unfolding entryOf
+  closer-closed t =
+      let (ballot, open-now) = closes-open t in
+      closer-set h new (parentNumber h i) (closing-up t) ballot open-now (is-true (closes (parentNumber h i) new) (closes-own new t))
 
   -- and no other
   pub closer-else : (k : ℕ) → k ≤ length h → (T (castOrSpoil (code i)) → parentNumber h i ≢ k) → closer (longer h new) k ≡ closer h k

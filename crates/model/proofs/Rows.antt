@@ -44,7 +44,7 @@ main-at h k t = rw (← map-keep main (λ e. e) (λ e. e .item) h, main-map) (ap
 
 module _ (h : History) where
   -- there is one more item
-  item-here : (j : ℕ) (e : Entry) (es : List Entry) → drop j h ≡ e ∷ es → (entry h (suc j) ≡ e) × (suc j ≤ length h)
+  pub item-here : (j : ℕ) (e : Entry) (es : List Entry) → drop j h ≡ e ∷ es → (entry h (suc j) ≡ e) × (suc j ≤ length h)
   unfolding entry
   item-here j e es q = (turns h j e es q .at absent, omega (arith, simp length-drop at (ap length q)))
 

@@ -6,3 +6,4 @@ pub mod SampleTrack
 pub mod SampleRoll
 pub mod SampleWide
 pub mod SampleCurves
+pub mod SampleGrowth

@@ -74,7 +74,7 @@ module _ {board index : List ℕ} {n : ℕ} {c : Known} (p : Passing board index
       rw longer (few-ballots (next _ _ _ _ _ (p .kept .passed) (p .meets)) (rw longer at few))
 
   pub counted-same : (c .item .head .code ≡ 20 → ⊥) → counted (before board (n + 1)) ≡ counted (before board n)
-  counted-same q = rw longer (counted-other (p .kept .passed) (p .meets) (λ e. q (next-code (passing-next p) ∙ e)))
+  counted-same q = rw longer (counted-other (p .kept .passed) (p .meets) _ (λ e. q (next-code (passing-next p) ∙ e)))
 
   module _ (cast : c .item .head .code ≡ 20) where
     is-cast : code (itemAfter board n) ≡ 20
@@ -82,7 +82,7 @@ module _ {board index : List ℕ} {n : ℕ} {c : Known} (p : Passing board index
 
     pub counted-more : counted (before board (n + 1)) ≡ without (vote .voter) (counted (before board n)) ++ (vote ∷ [])
     unfolding vote
-    counted-more = rw longer (counted-cast (p .kept .passed) (p .meets) is-cast)
+    counted-more = rw longer (counted-cast (p .kept .passed) (p .meets) _ is-cast)
 
     later : eqb (code (itemAfter board n)) 1 ≡ false
     later = ne-eqb (code (itemAfter board n)) 1 (λ e. omega (arith, is-cast))
