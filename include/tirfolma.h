@@ -5,7 +5,8 @@
      is 0, the pointer is not followed; it may not be null, so pass the address of any word.
    - A buffer that is lent for writing overlaps no other buffer of the call. Those that are only read may overlap.
    - No other thread writes a buffer, or reads one that is lent for writing, during the call.
-   - The stack has room: an audit takes some 38 KiB of it, and ancestry, which calls itself for each parent, up to 130 KiB more.
+   - The stack has room: an audit takes some 38 KiB of it, answering receipts some 14 KiB more, and ancestry, which calls itself for each
+     parent, up to 130 KiB more.
    The functions keep nothing, allocate nothing, and may be called from several threads at once. */
 #ifndef TIRFOLMA_H
 #define TIRFOLMA_H
@@ -48,7 +49,7 @@ enum {
 
 /* Where the answer's words stand. */
 enum {
-    TIRFOLMA_NUMBER = 0,      /* 0: accepted; 1 to 16, 18, 20 or 21: the refusal */
+    TIRFOLMA_NUMBER = 0,      /* 0: accepted; 1 to 16, 18, 20 or 21: the refusal; of tirfolma_receipts also 22 */
     TIRFOLMA_ITEMS = 1,       /* items; of a refusal, those that passed */
     TIRFOLMA_MAINS = 2,       /* main items */
     TIRFOLMA_BALLOTS = 3,     /* counted ballots */
@@ -183,6 +184,43 @@ bool tirfolma_ancestry(
     uint32_t *index, size_t index_words,
     uint32_t *ballots, size_t ballot_words,
     uint32_t *list, size_t list_words,
+    uint32_t *answer, size_t answer_words);
+
+/* ---- receipts */
+
+/* The most receipts that are answered at once. */
+#define TIRFOLMA_RECEIPTS 512
+
+/* Words of a receipt of a board on secp256r1, secp384r1 and secp521r1: a signature, then an address. */
+#define TIRFOLMA_RECEIPT_WORDS 24
+#define TIRFOLMA_RECEIPT_WORDS_384 36
+#define TIRFOLMA_RECEIPT_WORDS_521 49
+
+/* The word for a receipt that has no cast. */
+#define TIRFOLMA_NO_CAST 4294967295u
+
+/* Audits a board with its verdict words and the roll of its voters, then gives for each receipt the main number of the first cast with its
+   address and its signature, or TIRFOLMA_NO_CAST. A receipt is a signature and then an address, of the board's widths; they are read from
+   the board as for tirfolma_audit, also where the board is refused. Words that are not whole receipts, or more than 512 receipts, are refused
+   by 22; an answers buffer with fewer words than there are receipts is then refused by 2; both come before the audit, and with 0 items.
+   Receipts of no words are good, and have no answers.
+
+   True: the first 22 words of the answer are as those of tirfolma_audit, with 22 among the refusals, and the words behind them are as they
+   were. The tables are as tirfolma_audit leaves them; under 22, and under 2 for the answers buffer, they are as they were.
+   The answers buffer:
+     any refusal    every word as it was
+     accepted       a word for each receipt, in the receipts' order; then zeros
+   False: the answer has fewer than 22 words. No word of any buffer is written.
+
+   Contract: `Answered` in crates/abi/specs/Written.antt. */
+bool tirfolma_receipts(
+    const uint32_t *board, size_t board_words,
+    const uint32_t *verdicts, size_t verdict_words,
+    const uint32_t *roll, size_t roll_words,
+    const uint32_t *receipts, size_t receipt_words,
+    uint32_t *index, size_t index_words,
+    uint32_t *ballots, size_t ballot_words,
+    uint32_t *answers, size_t answers_words,
     uint32_t *answer, size_t answer_words);
 
 #ifdef __cplusplus

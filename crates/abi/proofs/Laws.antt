@@ -13,12 +13,13 @@ use Rattle.model.specs.Format.{Format}
 use Rattle.model.specs.Audit.{Outcome}
 use Rattle.model.specs.Comparing.{ComparingAnswer, comparingAnswer, laterIndexAfter, laterBallotsAfter}
 use Rattle.model.specs.Ancestry.{AncestryAnswer, ancestryAnswer, listAfter}
+use Rattle.model.specs.Receipts.{answersAfter}
 use Rattle.compare.specs.declared.Comparison.{Comparison}
 use Rattle.compare.specs.Answer as comparing
 use Rattle.ancestry.specs.declared.Listing.{Listing}
 use Rattle.ancestry.specs.Answer as listing
 use Rattle.answers.specs.Words.{answerWords, auditSize, overwritten, compareSize, comparisonWords, ancestrySize, listingWords}
-use Rattle.abi.specs.Written.{hasRoom, AuditWritten, ComparisonWritten, ListingWritten}
+use Rattle.abi.specs.Written.{hasRoom, AuditWritten, ComparisonWritten, ListingWritten, AnswersWritten}
 
 module _ (f : Format) (outcome : Outcome) (index ballots answer : List ℕ) where
   -- no room for the answer
@@ -63,3 +64,16 @@ module _ (outcome : Outcome) (number : ℕ) (index ballots list answer : List �
   listed-told h l told ei eb en ea =
       let yes : hasRoom ancestrySize answer ≡ true = le-leb ancestrySize (length answer) h in
       record { is = sym yes; listing = rw yes (ea ∙ ap (λ (x : AncestryAnswer). overwritten (listingWords x) answer) told); indexRows = rw yes ei; ballotRows = rw yes eb; numbers = rw yes en }
+
+module _ (f : Format) (receipts : List ℕ) (outcome : Outcome) (index ballots answers answer : List ℕ) where
+  pub answered-short : length answer < auditSize → AnswersWritten f receipts outcome index ballots answers answer false index ballots answers answer
+  answered-short h =
+      let no : hasRoom auditSize answer ≡ false = lt-leb auditSize (length answer) h in
+      record { audited = audited-short f outcome index ballots answer h; numbers = rw no }
+
+  pub answered-told : auditSize ≤ length answer → (r : Report) → reported r ≡ reportOf f outcome
+      → {i b n a : List ℕ} → i ≡ indexAfter outcome index → b ≡ ballotsAfter outcome ballots → n ≡ answersAfter f receipts outcome answers
+      → a ≡ overwritten (answerWords (reported r)) answer → AnswersWritten f receipts outcome index ballots answers answer true i b n a
+  answered-told h r told ei eb en ea =
+      let yes : hasRoom auditSize answer ≡ true = le-leb auditSize (length answer) h in
+      record { audited = audited-told f outcome index ballots answer h r told ei eb ea; numbers = rw yes en }

@@ -11,9 +11,11 @@ use Rattle.model.specs.Audit.{Outcome}
 use Rattle.model.specs.Report.{reportOf, indexAfter, ballotsAfter}
 use Rattle.model.specs.Comparing.{comparingAnswer, laterIndexAfter, laterBallotsAfter}
 use Rattle.model.specs.Ancestry.{ancestryAnswer, listAfter}
+use Rattle.model.specs.Receipts.{answersAfter}
 use Rattle.format.specs.Format.{formatOf}
 use Rattle.audit.specs.Outcome.{Slice, outcomeOf}
 use Rattle.entries.specs.Listing.{listingOutcome}
+use Rattle.entries.specs.Answering.{receiptsOutcome}
 use Rattle.answers.specs.Words.{overwritten, auditSize, answerWords, compareSize, comparisonWords, ancestrySize, listingWords}
 
 -- a slice that an entry writes: its words at entry and at exit
@@ -81,3 +83,19 @@ Listed board verdicts roll number index ballots list answer told =
     ListingWritten (listingOutcome board verdicts roll index ballots list) number
     (now (index .entry)) (now (ballots .entry)) (now (list .entry)) (now (answer .entry)) told
     (now (index .exit)) (now (ballots .exit)) (now (list .exit)) (now (answer .exit))
+
+-- ---- receipts
+
+-- Of the board's format, the receipts and the outcome: what an audit with that outcome writes, and with room for the report the answers as
+-- answering leaves them. Without: every word as it was.
+pub record AnswersWritten (f : Format) (receipts : List ℕ) (outcome : Outcome) (index ballots answers answer : List ℕ)
+    (told : Bool) (index′ ballots′ answers′ answer′ : List ℕ) : Type 0 where
+  pub audited : AuditWritten f outcome index ballots answer told index′ ballots′ answer′
+  pub numbers : answers′ ≡ cond (hasRoom auditSize answer) (answersAfter f receipts outcome answers) answers
+
+-- of what the caller passed
+abbrev pub Answered : {A B C D : Type 0} → Slice A → Slice B → Slice C → Slice D → Buffer → Buffer → Buffer → Buffer → Bool → Type 0
+Answered board verdicts roll receipts index ballots answers answer told =
+    AnswersWritten (formatOf (now (board .entry))) (now (receipts .entry)) (receiptsOutcome board verdicts roll receipts index ballots answers)
+    (now (index .entry)) (now (ballots .entry)) (now (answers .entry)) (now (answer .entry)) told
+    (now (index .exit)) (now (ballots .exit)) (now (answers .exit)) (now (answer .exit))

@@ -1,7 +1,8 @@
 // The auditor for programs in C and Rust. A caller outside Rattle is checked by nothing, so an entry requires nothing: it refuses.
 // include/tirfolma.h has the same for the caller.
-ghost use Rattle.abi.specs.Written.{Audited, Compared, Listed};
+ghost use Rattle.abi.specs.Written.{Audited, Compared, Listed, Answered};
 use answers::Size;
+use entries::answering;
 use entries::comparing;
 use entries::listing;
 
@@ -86,5 +87,28 @@ pub extern "C" fn tirfolma_ancestry(
     }
     let listing = listing::ancestry(board, verdicts, roll, number, index, ballots, list);
     answers::put_listing(listing, answer);
+    true
+}
+
+// Audits a board, answers receipts from it, writes the report into the first 22 words of the answer and the main number of each receipt's
+// cast into the answers, and returns true, of a refusal too. Where the answer is shorter, returns false and writes nothing.
+#[no_mangle]
+pub extern "C" fn tirfolma_receipts(
+    board: &[u32],
+    verdicts: &[u32],
+    roll: &[u32],
+    receipts: &[u32],
+    index: &mut [u32],
+    ballots: &mut [u32],
+    answers: &mut [u32],
+    answer: &mut [u32],
+) -> bool
+    ensures { λ r. ⌜ Answered board verdicts roll receipts index ballots answers answer r ⌝ }
+{
+    if answer.len() < Size::AUDIT {
+        return false;
+    }
+    let report = answering::receipts(board, verdicts, roll, receipts, index, ballots, answers);
+    answers::put_report(report, answer);
     true
 }

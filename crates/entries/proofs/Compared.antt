@@ -1,4 +1,4 @@
--- The answer of comparing two boards, by what their audits answered, and what it leaves in the later board's tables. Assumes nothing.
+-- The answer of comparing two boards, by what their audits answered. Assumes nothing.
 use Prim.Native.Nat.{ℕ}
 use native.Mathlib.Omega.{arith}
 use mathlib.Core.Path.{_≡_, _∙_}
@@ -6,7 +6,7 @@ use mathlib.Core.List.{List}
 use Rattle.model.specs.Lists.{count}
 use Rattle.model.specs.History.{History, main}
 use Rattle.model.specs.Audit.{Outcome, accepted}
-use Rattle.model.specs.Comparing.{ComparingAnswer, keptBoard, laterBoard, refusedBoard, answerLater, comparingAnswer, laterAfter}
+use Rattle.model.specs.Comparing.{ComparingAnswer, keptBoard, laterBoard, refusedBoard, answerLater, comparingAnswer}
 use Rattle.model.proofs.Lists.{count-keep}
 use Rattle.model.proofs.Entries.{orderly}
 use Rattle.model.proofs.Chain.{main-opened}
@@ -40,23 +40,14 @@ pub later-accepted : {o : Outcome} {h : History} (g : History) (number : ℕ) �
     → a ≡ answerLater g (accepted h) number → a ≡ answerLater g o number
 later-accepted g number accepts e = e ∙ rw accepts
 
--- the kept board's refusal names it, and a table of the later board stays as it was
+-- the kept board's refusal names it
 pub kept-refused : {o : Outcome} {n k : ℕ} (later : Outcome) (number : ℕ) → RefusedAs o n k → refusedBoard keptBoard n k ≡ comparingAnswer o later number
 unfolding comparingAnswer
 kept-refused later number (unchanged e none) = rw (e, none)
 kept-refused later number (cleared e) = rw e
 
-pub later-unchanged : {o : Outcome} {n k : ℕ} (held left : List ℕ) → RefusedAs o n k → held ≡ laterAfter o held left
-unfolding laterAfter
-later-unchanged held left (unchanged e none) = rw e
-later-unchanged held left (cleared e) = rw e
-
--- an accepted kept board leaves the answer, and the later board's tables, to the later board's audit
-module _ {o : Outcome} {g : History} (accepts : o ≡ accepted g) where
-  pub kept-accepted : (later : Outcome) (number : ℕ) {a : ComparingAnswer} → a ≡ answerLater g later number → a ≡ comparingAnswer o later number
-  unfolding comparingAnswer
-  kept-accepted later number e = e ∙ rw accepts
-
-  pub later-audited : (held left : List ℕ) {table : List ℕ} → table ≡ left → table ≡ laterAfter o held left
-  unfolding laterAfter
-  later-audited held left e = e ∙ rw accepts
+-- an accepted kept board leaves the answer to the later board's audit
+pub kept-accepted : {o : Outcome} {g : History} → o ≡ accepted g → (later : Outcome) (number : ℕ) {a : ComparingAnswer}
+    → a ≡ answerLater g later number → a ≡ comparingAnswer o later number
+unfolding comparingAnswer
+kept-accepted accepts later number e = e ∙ rw accepts

@@ -1,2 +1,3 @@
 -- What the entries name in their contracts.
 pub mod Listing
+pub mod Answering

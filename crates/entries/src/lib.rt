@@ -1,3 +1,4 @@
 // The entries above the audit: each audits first, and then asks the accepted board what it is for.
+pub mod answering;
 pub mod comparing;
 pub mod listing;

@@ -22,11 +22,11 @@ use Rattle.model.specs.Roll.{Eligibility}
 use Rattle.model.specs.Sound.{Meets, Passed}
 use Rattle.model.proofs.Tests.{by-test, is-true, is-false, and-iff, implies-iff, not-iff}
 use Rattle.model.proofs.Rules.{only-rules}
-use Rattle.model.proofs.Numbers.{entry-append, first-found, first-bound, first-within}
+use Rattle.model.proofs.Numbers.{any-before, entry-append, first-found, first-bound, first-within}
 use Rattle.model.proofs.State.{first-snoc, any-first}
 use Rattle.model.proofs.Table.{parentType, parent-type-law}
 use Rattle.model.proofs.Entries.{fine-at, orderly, parent-bound, parent-type}
-use Rattle.model.proofs.Once.{any-before, one-under-ballot}
+use Rattle.model.proofs.Once.{one-under-ballot}
 
 -- a cast or spoil under item k
 abbrev closes : ℕ → Entry → Bool

@@ -15,13 +15,14 @@ use Rattle.model.specs.Report.{reportOf, outside, Refuses, NoSuch}
 use Rattle.model.specs.Sound.{Sound}
 use Rattle.model.specs.Compare.{Comparison, apart, same, compare}
 use Rattle.model.specs.Alone.{SameStart}
-use Rattle.model.specs.Comparing.{Board, ComparingAnswer, keptBoard, laterBoard, refusedBoard, compared, answerLater, comparingAnswer, laterAfter, laterIndexAfter, laterBallotsAfter, Answered}
+use Rattle.model.specs.Comparing.{Board, ComparingAnswer, keptBoard, laterBoard, refusedBoard, compared, answerLater, comparingAnswer, laterIndexAfter, laterBallotsAfter, Answered}
 use Rattle.model.proofs.Tests.{tests, by-if, if-no, if-yes, neither}
 use Rattle.model.proofs.Lists.{count-keep}
 use Rattle.model.proofs.Parts.{map-take}
 use Rattle.model.proofs.Alone.{same-start}
 use Rattle.model.proofs.Comparison.{OneHash, end-is, widths-met, comparing}
 use Rattle.model.proofs.Acceptance.{not-unread, not-refused, accepted↔sound}
+use Rattle.model.proofs.Above.{buffer-keeps}
 use Rattle.model.proofs.Report.{tables-keep, Numbered, audit-numbered}
 
 -- the comparison that an answer gives
@@ -160,26 +161,6 @@ compares-only (unread n) later b c e = absurd (refuses e)
 compares-only (refused n k) later b c e = absurd (refuses e)
 compares-only (accepted g) later b c e = let (h, q, one, all) = inside-later g later b c e in (g, h, refl, q, one, all)
 
--- ---- the tables
-
--- a table of the later board is as it was, if the kept board is refused
-pub later-unchanged : {f : Format} {n k : ℕ} (kept : Outcome) (held left : List ℕ) → Refuses f kept n k → laterAfter kept held left ≡ held
-unfolding laterAfter reportOf
-later-unchanged (unread m) held left r = refl
-later-unchanged (refused m i) held left r = refl
-later-unchanged (accepted g) held left r = absurd (omega arith)
-
--- and else as its own audit leaves it
-pub later-audited : {g : History} (kept : Outcome) (held left : List ℕ) → kept ≡ accepted g → laterAfter kept held left ≡ left
-unfolding laterAfter
-later-audited kept held left e = rw e
-
-later-keeps : (kept : Outcome) (held left : List ℕ) → length left ≡ length held → length (laterAfter kept held left) ≡ length held
-unfolding laterAfter
-later-keeps (unread m) held left e = refl
-later-keeps (refused m i) held left e = refl
-later-keeps (accepted g) held left e = e
-
 -- ---- the entry, from the words of both boards and what the four buffers held: the kept board's tables ki and kt, the later one's li and lt
 
 module _ (f f′ : Format) (kb kv kr lb lv lr ki kt li lt : List ℕ) (b : ℕ) where
@@ -199,7 +180,7 @@ module _ (f f′ : Format) (kb kv kr lb lv lr ki kt li lt : List ℕ) (b : ℕ) 
   pub later-tables-keep : (length (laterIndexAfter kept later li) ≡ length li) × (length (laterBallotsAfter kept later lt) ≡ length lt)
   later-tables-keep =
       let (index, ballots) = tables-keep f′ lb lv lr li lt in
-      (later-keeps kept li _ index, later-keeps kept lt _ ballots)
+      (buffer-keeps kept _ li (λ g e. index), buffer-keeps kept _ lt (λ g e. ballots))
 
   pub answered-audits : {g h : History} → OneHash f f′ → kept ≡ accepted g → later ≡ accepted h → 1 ≤ b → b ≤ count main h
       → Answered f f′ g h b (comparingAnswer kept later b)

@@ -3,16 +3,16 @@
 use Prim.Native.Nat.{ℕ, zero, suc, _+_, _-_, _*_, _%_, _^_, _≤_, _<_}
 use native.Mathlib.Nat.{not-suc-le-zero}
 use native.Mathlib.Omega.{arith}
-use mathlib.Core.Path.{_≡_, refl, sym, ap, _∙_, subst}
+use mathlib.Core.Path.{_≡_, refl, sym, ap, _∙_}
 use mathlib.Core.Logic.{_≢_, _↔_}
 use mathlib.Core.Bool.{Bool, _&&_}
-use mathlib.Core.List.{List, [], _∷_, _++_}
+use mathlib.Core.List.{List, [], _∷_}
 use lib.ListN.{length, getD, take, drop, length-take, length-drop, List·getD-eq-default}
 use lib.Seq.{getD-take, getD-drop, take-all}
 use lib.Dec.{T, eqb, ltb, eqb→eq}
 use borrow.Author.Tests.{eqb-true, eqb-false, eq-eqb, le-leb}
 use Rattle.model.specs.Lists.{if_then_else_, _⇒_, part, keep}
-use Rattle.model.specs.Words.{kindOf, codeOf, countOf, closingWord, pair, member, size, allIn, lowZero}
+use Rattle.model.specs.Words.{kindOf, codeOf, countOf, pair, member, size, allIn, lowZero}
 use Rattle.model.specs.Format.{Format, Hashes}
 use Rattle.model.specs.Traits.{traitsHead, traitsKnown, traitsOf, formatWith, formatOf}
 use Rattle.model.specs.Item.{Item, itemAt, code, word}
@@ -20,19 +20,18 @@ use Rattle.model.specs.Types.{table, Listed, fits}
 use Rattle.model.specs.History.{History, Entry, entry, entryOf, itemNo, main, mainItem, placeOf, sessionContests}
 use Rattle.model.specs.Phase.{roundContests, roundStart, roundEnd}
 use Rattle.model.specs.Content.{mayVote, cryptogramsOk, genesisTraits, genesisOk, contestOk, thresholdOk, authorizerOk, roundOk, sessionOk, commitmentOk, ballotOk, fingerprintOk, trusteesOk, contentOk}
-use Rattle.model.specs.Roll.{Eligibility, onRoll}
-use Rattle.model.specs.Sound.{Shaped, Meets, Sound, Beginning}
+use Rattle.model.specs.Roll.{Eligibility}
+use Rattle.model.specs.Sound.{Shaped, Meets, Sound}
 use Rattle.model.specs.Alone.{mainList}
 use Rattle.model.proofs.Tests.{by-test, is-true, and-iff, leb-iff, eq→eqb, facts}
 use Rattle.model.proofs.Traits.{known-few}
 use Rattle.model.proofs.Sets.{set-all, set-counts}
-use Rattle.model.proofs.Numbers.{entry-append}
 use Rattle.model.proofs.Rules.{content-rules, andNothing, alone}
 use Rattle.model.proofs.Table.{main-code, countType, count-type-law, countWithin, count-within-law, countSet, set-count-law}
 use Rattle.model.proofs.Entries.{Orderly, typed-main, first-genesis, orderly}
 use Rattle.model.proofs.Keys.{session-count}
 use Rattle.model.proofs.Unchecked.{entry-history, sound-history}
-use Rattle.model.proofs.Beginnings.{made-at, sound-beginning}
+use Rattle.model.proofs.Beginnings.{made-at}
 
 -- a head is its three fields
 head-is : (w : ℕ) → kindOf w ≡ 1 → codeOf w ≡ 1 → countOf w ≡ 18 → w ≡ traitsHead
@@ -98,33 +97,15 @@ module _ (s : Hashes) where
       → formatOf s ws ≡ formatWith s (genesisTraits (itemNo h 1))
   format-said b = ap (formatWith s) (traits-said b)
 
-  -- boards whose first items have the same traits have the same format
-  module _ {f f′ : Format} {ws vs roll us ts roll′ : List ℕ} where
-    same-format : {g h : History} → Sound f ws vs roll g → Sound f′ us ts roll′ h → genesisTraits (itemNo g 1) ≡ genesisTraits (itemNo h 1)
-        → formatOf s ws ≡ formatOf s us
-    same-format a b e = ap (formatWith s) (traits-said a ∙ e ∙ sym (traits-said b))
-
-    -- as those with the same main items, signatures left aside
-    pub main-format : {g h : History} → Sound f ws vs roll g → Sound f′ us ts roll′ h → mainList g ≡ mainList h
-        → formatOf s ws ≡ formatOf s us
-    main-format {g} {h} a b e =
-        same-format a b
-        (sym (first-main g (orderly (a .passed)) (a .opened))
-        ∙ ap (λ (is : List Item). genesisTraits (mainItem is 1)) e
-        ∙ first-main h (orderly (b .passed)) (b .opened))
-
-    -- and those of which one begins as the other
-    longer-format : (g t : History) → Sound f ws vs roll (g ++ t) → Sound f′ us ts roll′ g → formatOf s ws ≡ formatOf s us
-    longer-format g t a b = same-format a b (ap (λ (e : Entry). genesisTraits (e .item)) (entry-append g t 1 (b .opened)))
-
-  -- a cut of a sound board is sound in its own format
-  pub cut-format : {ws vs roll : List ℕ} (h t : History) (a : Sound (formatOf s ws) ws vs roll (h ++ t)) → 1 ≤ length h
-      → (b : Beginning (formatOf s ws) (onRoll roll) (a .words) vs h)
-      × let cut = b .words ++ (closingWord (length h) ∷ []) in Sound (formatOf s cut) cut (b .verdicts) roll h
-  cut-format {roll} h t a one =
-      let (b, sound) = sound-beginning h t a one in
-      let cut = b .words ++ (closingWord (length h) ∷ []) in
-      (b, subst (λ (f : Format). Sound f cut (b .verdicts) roll h) (longer-format h t a sound) sound)
+  -- boards with the same main items, signatures left aside, have the same format
+  pub main-format : {f f′ : Format} {ws vs roll us ts roll′ : List ℕ} {g h : History} → Sound f ws vs roll g → Sound f′ us ts roll′ h
+      → mainList g ≡ mainList h → formatOf s ws ≡ formatOf s us
+  main-format {g = g} {h} a b e =
+      ap (formatWith s) (traits-said a
+      ∙ sym (first-main g (orderly (a .passed)) (a .opened))
+      ∙ ap (λ (is : List Item). genesisTraits (mainItem is 1)) e
+      ∙ first-main h (orderly (b .passed)) (b .opened)
+      ∙ sym (traits-said b))
 
 -- ---- what check 13 says of a genesis and of a contest
 

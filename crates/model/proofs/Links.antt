@@ -1,11 +1,8 @@
 -- What checks 7 to 9 say of an item's address, of the main item before it and of its parent, word for word, for any address width.
 -- Paper: "Parent", "Previous", the table of refusals; request (ix). Assumes nothing.
-use Prim.Native.Nat.{ℕ, zero, suc, _≤_, _<_}
-use native.Mathlib.Nat.{not-suc-le-zero}
-use native.Mathlib.Omega.{arith}
-use native.Mathlib.Decide.{decLe}
+use Prim.Native.Nat.{ℕ, _≤_, _<_}
 use mathlib.Core.Path.{_≡_, sym, _∙_}
-use mathlib.Core.Logic.{_≢_, _↔_, Iff·trans, by-cases}
+use mathlib.Core.Logic.{_≢_, _↔_, Iff·trans}
 use mathlib.Core.Bool.{not, Bool·beq}
 use mathlib.Core.List.{List}
 use lib.ListN.{length, replicate}
@@ -15,13 +12,12 @@ use Rattle.model.specs.Words.{sameWords}
 use Rattle.model.specs.Format.{Format, Hashes, secp256r1, secp384r1, secp521r1, formatOn}
 use Rattle.model.specs.Item.{Item, hashed, code, isMain}
 use Rattle.model.specs.Types.{ParentRule, zeros, latestConfig, ofType, Listed}
-use Rattle.model.specs.History.{History, entry, itemNo, main, first, mainItem, mainItems, endAfter, endAddress, parentOf, parentNumber}
+use Rattle.model.specs.History.{History, entry, itemNo, main, mainItem, mainItems, endAfter, endAddress, parentOf, parentNumber}
 use Rattle.model.specs.Links.{addressOk, previousOk, parentOk}
 use Rattle.model.proofs.Tests.{passes, if-yes, if-no, beq-eq, eq-beq, and-iff, same-iff}
-use Rattle.model.proofs.Numbers.{first-found, first-bound, first-within}
+use Rattle.model.proofs.Numbers.{first-is}
 use Rattle.model.proofs.Table.{asksNone, genesis-law}
 use Rattle.model.proofs.Entries.{parent-first}
-use Rattle.model.proofs.Once.{any-before}
 use Rattle.model.proofs.Chain.{end-some}
 
 -- ---- 7, the address
@@ -83,21 +79,7 @@ module _ (h : History) (i : Item) where
       and-iff (Bool·beq (main (entry h k)) (leb (code i) 48)) (sameWords (itemNo h k .address) (i .parent)) .1
       (eq-beq _ _ kind, same-iff _ _ .1 address)
 
-  -- none is found behind one of them
-  not-behind : (j : ℕ) → Sought j → (1 ≤ first (parentOf i) h) × (first (parentOf i) h ≤ j)
-  unfolding entry
-  not-behind zero s = absurd (not-suc-le-zero (s .0))
-  not-behind (suc j) s = first-within (parentOf i) h (suc j) (any-before (parentOf i) h j (suc j) (s .1) (omega arith) (is-parent (suc j) s))
-
   pub parent-sought : code i ≢ 1 → (k : ℕ) → 1 ≤ k → (parentNumber h i ≡ k) ↔ (Sought k × ((j : ℕ) → j < k → Sought j → ⊥))
-  parent-sought c k one =
-      let n = first (parentOf i) h in
-      rw (parent-first h i (ne-eqb (code i) 1 c)) (
-        λ e. let some : 1 ≤ n = omega arith in (
-          rw (← e) (sought n some (first-bound (parentOf i) h) (first-found (parentOf i) h some)),
-          λ j l s. let (low, high) = not-behind j s in omega arith,
-        ),
-        λ (s, none). let (low, high) = not-behind k s in
-            by-cases (decLe k n) (λ l. omega arith)
-            (λ l. absurd (none n (omega arith) (sought n low (first-bound (parentOf i) h) (first-found (parentOf i) h low)))),
-      )
+  parent-sought c =
+      rw (parent-first h i (ne-eqb (code i) 1 c))
+      (first-is (parentOf i) h Sought (λ k. (λ (one, all, t). sought k one all t, λ s. (s .0, s .1, is-parent k s))))

@@ -1,6 +1,6 @@
 -- What the ancestry entry answers and leaves: which refusal it gives, and what its list buffer holds.
 -- Paper: "One entry lists an item's ancestry". Assumes nothing.
-use Prim.Native.Nat.{ℕ, zero, suc, _-_, _≤_}
+use Prim.Native.Nat.{ℕ, zero, suc, _-_, _≤_, _<_}
 use native.Mathlib.Nat.{sub-zero}
 use native.Mathlib.Omega.{arith}
 use mathlib.Core.Path.{_≡_, refl, sym, ap, ap₂, subst, _∙_}
@@ -8,7 +8,8 @@ use mathlib.Core.Logic.{_↔_, _⊎_, inl, inr, ⊎-elim}
 use mathlib.Core.Bool.{not, _||_}
 use mathlib.Core.List.{List, []}
 use lib.ListN.{length, getD, replicate}
-use lib.Dec.{T, ltb}
+use lib.Arith.{le→nltb}
+use lib.Dec.{T, leb, ltb, leb→le, nleb→lt}
 use Rattle.model.specs.Refusal.{tooLarge, shortTable}
 use Rattle.model.specs.Format.{Format}
 use Rattle.model.specs.History.{History}
@@ -17,8 +18,9 @@ use Rattle.model.specs.Audit.{Outcome, unread, refused, accepted, audit,
 use Rattle.model.specs.Report.{reportOf, Refuses, NoSuch, filled, tableAfter, indexAfter, ballotsAfter, outside}
 use Rattle.model.specs.Sound.{Sound, Passed}
 use Rattle.model.specs.Ancestry.{ancestry, listNeed, AncestryAnswer, ancestryAudit, unlisted, listed, ancestryAnswer, written, listAfter, Line, ends, climbs, HoldsAncestry}
-use Rattle.model.proofs.Tests.{tests, by-if, if-no, if-yes, neither, or-else}
+use Rattle.model.proofs.Tests.{tests, by-if, if-no, if-yes, neither, not-iff, not-not, or-else}
 use Rattle.model.proofs.Acceptance.{not-unread, not-refused, accepted↔sound}
+use Rattle.model.proofs.Above.{checked-none, checked-fails, by-checked}
 use Rattle.model.proofs.Ancestry.{ancestry-line, line-length}
 use Rattle.model.proofs.Tables.{length-filled, getD-filled}
 use Rattle.model.proofs.Report.{Numbered, audit-numbered, filled-rows, filled-rest, table-keeps, table-unchanged, table-zero, table-filled, tables-keep}
@@ -43,41 +45,47 @@ itemsOf (listed n) = 0
 -- ---- the audit of this entry: 1, then 2 for any of the three buffers, then the rest
 
 module _ (f : Format) (ws vs roll : List ℕ) (index ballots list : ℕ) where
+  abbrev audited : Outcome
+  audited = audit f ws vs roll index ballots
+
   pub too-large : T (isTooLarge ws) → ancestryAudit f ws vs roll index ballots list ≡ unread tooLarge
   unfolding ancestryAudit
-  too-large t = if-yes (isTooLarge ws) _ _ t
-
-  pub short-buffer : T (not (isTooLarge ws)) → T (isShort index ballots || ltb list listNeed) → ancestryAudit f ws vs roll index ballots list ≡ unread shortTable
-  unfolding ancestryAudit audit
-  short-buffer t u =
-      if-no (isTooLarge ws) _ _ t
-      ∙ by-if (λ o. o ≡ unread shortTable) (ltb list listNeed) _ _ (λ s. refl)
-      (λ s. if-no (isTooLarge ws) _ _ t ∙ if-yes (isShort index ballots) _ _ (or-else (isShort index ballots) (ltb list listNeed) u s))
-
-  pub as-audited : listNeed ≤ list → ancestryAudit f ws vs roll index ballots list ≡ audit f ws vs roll index ballots
-  unfolding ancestryAudit audit
-  as-audited l =
-      by-if (λ o. o ≡ audit f ws vs roll index ballots) (isTooLarge ws) _ _ (λ t. sym (if-yes (isTooLarge ws) _ _ t))
-      (λ t. if-no (ltb list listNeed) _ _ (omega (arith, tests)))
+  too-large t = checked-fails audited 0 (not (isTooLarge ws)) _ (not-not (isTooLarge ws) .1 t)
 
   -- a property of every outcome
-  by-audit : (P : Outcome → Type 0) → P (unread tooLarge) → P (unread shortTable) → (listNeed ≤ list → P (audit f ws vs roll index ballots))
-      → P (ancestryAudit f ws vs roll index ballots list)
+  by-audit : (P : Outcome → Type 0) → (T (isTooLarge ws) → P (unread tooLarge)) → (T (not (isTooLarge ws)) → list < listNeed → P (unread shortTable))
+      → (listNeed ≤ list → P (audit f ws vs roll index ballots)) → P (ancestryAudit f ws vs roll index ballots list)
   unfolding ancestryAudit
   by-audit P large short rest =
-      by-if P (isTooLarge ws) _ _ (λ t. large)
-      λ t. by-if P (ltb list listNeed) _ _ (λ u. short) (λ u. rest (omega (arith, tests)))
+      by-checked audited 0 (not (isTooLarge ws)) _ P
+      (λ t. by-checked audited 1 (leb listNeed list) _ P
+      (λ u. subst P (sym (checked-none audited)) (rest (leb→le listNeed list u)))
+      (λ u. short t (omega (arith, nleb→lt listNeed list u))))
+      (λ t. large (not-not (isTooLarge ws) .0 t))
+
+  pub short-buffer : T (not (isTooLarge ws)) → T (isShort index ballots || ltb list listNeed) → ancestryAudit f ws vs roll index ballots list ≡ unread shortTable
+  unfolding audit
+  short-buffer t u =
+      by-audit (λ o. o ≡ unread shortTable)
+      (λ v. absurd (not-iff (isTooLarge ws) .0 t v))
+      (λ v l. refl)
+      (λ l. if-no (isTooLarge ws) _ _ t ∙ if-yes (isShort index ballots) _ _ (or-else (isShort index ballots) (ltb list listNeed) u (le→nltb list listNeed l)))
+
+  pub as-audited : listNeed ≤ list → ancestryAudit f ws vs roll index ballots list ≡ audit f ws vs roll index ballots
+  unfolding audit
+  as-audited l =
+      by-audit (λ o. o ≡ audited) (λ t. sym (if-yes (isTooLarge ws) _ _ t)) (λ t u. absurd (omega arith)) (λ m. refl)
 
   numbered : Numbered (ancestryAudit f ws vs roll index ballots list)
-  numbered = by-audit Numbered (omega arith) (omega arith) (λ l. audit-numbered f ws vs roll index ballots)
+  numbered = by-audit Numbered (λ t. omega arith) (λ t l. omega arith) (λ l. audit-numbered f ws vs roll index ballots)
 
   -- accepted exactly where the board is sound and the three buffers are long enough
   pub accepted-listing : (h : History)
       → (ancestryAudit f ws vs roll index ballots list ≡ accepted h) ↔ (Sound f ws vs roll h × (indexNeed ≤ index) × (ballotNeed ≤ ballots) × (listNeed ≤ list))
   accepted-listing h = (
     by-audit (λ o. o ≡ accepted h → Sound f ws vs roll h × (indexNeed ≤ index) × (ballotNeed ≤ ballots) × (listNeed ≤ list))
-        (λ e. absurd (not-unread e))
-        (λ e. absurd (not-unread e))
+        (λ t e. absurd (not-unread e))
+        (λ t l e. absurd (not-unread e))
         (λ l e. let (sound, wide, roomy) = accepted↔sound f ws vs roll index ballots h .0 e in (sound, wide, roomy, l)),
     λ (sound, wide, roomy, l). as-audited l ∙ accepted↔sound f ws vs roll index ballots h .1 (sound, wide, roomy),
   )
@@ -210,7 +218,7 @@ module _ (f : Format) (ws vs roll s t l : List ℕ) (k : ℕ) where
   pub listing-keeps : (length (indexAfter outcome s) ≡ length s) × (length (ballotsAfter outcome t) ≡ length t) × (length (listAfter outcome k l) ≡ length l)
   unfolding tableAfter
   listing-keeps = (
-    by-audit f ws vs roll (length s) (length t) (length l) (λ o. length (indexAfter o s) ≡ length s) refl refl (λ m. tables-keep f ws vs roll s t .0),
-    by-audit f ws vs roll (length s) (length t) (length l) (λ o. length (ballotsAfter o t) ≡ length t) refl refl (λ m. tables-keep f ws vs roll s t .1),
+    by-audit f ws vs roll (length s) (length t) (length l) (λ o. length (indexAfter o s) ≡ length s) (λ u. refl) (λ u m. refl) (λ m. tables-keep f ws vs roll s t .0),
+    by-audit f ws vs roll (length s) (length t) (length l) (λ o. length (ballotsAfter o t) ≡ length t) (λ u. refl) (λ u m. refl) (λ m. tables-keep f ws vs roll s t .1),
     table-keeps outcome (written k) l written-fits,
   )

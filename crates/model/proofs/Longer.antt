@@ -5,7 +5,7 @@ use native.Mathlib.Omega.{arith}
 use mathlib.Core.Path.{_≡_, refl, sym, ap, subst, _∙_}
 use mathlib.Core.Logic.{_↔_}
 use mathlib.Core.List.{List, [], _∷_, _++_, append-assoc, append-nil}
-use lib.ListN.{length, getD, take, length-append}
+use lib.ListN.{length, getD, length-append}
 use lib.Seq.{take-append-seam}
 use Rattle.model.specs.Words.{countOf, closingWord}
 use Rattle.model.specs.Format.{Format, Hashes}
@@ -22,10 +22,9 @@ use Rattle.model.proofs.Numbers.{entry-snoc}
 use Rattle.model.proofs.Entries.{orderly}
 use Rattle.model.proofs.Keys.{verdict-words, length-verdicts}
 use Rattle.model.proofs.Parsing.{length-words, item-here}
-use Rattle.model.proofs.Unchecked.{passed-history}
+use Rattle.model.proofs.Unchecked.{passed-history, words-least}
 use Rattle.model.proofs.Beginnings.{made-at}
-use Rattle.model.proofs.Program.{words-least}
-use Rattle.model.proofs.Traits.{format-take}
+use Rattle.model.proofs.Traits.{format-front}
 
 no-more : {A : Type 0} (xs : List A) → length xs ≡ 0 → xs ≡ []
 no-more [] e = refl
@@ -157,8 +156,6 @@ module _ {f : Format} {ws vs ws′ roll : List ℕ} {h : History} (m : OneMore w
 -- the format is one, by the first items' words
 pub same-format : (s : Hashes) {f : Format} {ws vs ws′ roll : List ℕ} {h : History} → OneMore ws ws′ → Sound f ws vs roll h
     → leastItem ≤ itemLength f 0 → formatOf s ws′ ≡ formatOf s ws
-same-format s {ws = ws} {ws′ = ws′} o b least =
-    let n = length (o .words) in
-    let long : 18 < n = omega (arith, words-least least (passed o b), b .opened) in
-    let front : take n ws ≡ take n ws′ = rw (o .closed, o .closedLater, take-append-seam, take-append-seam) in
-    sym (format-take s n ws′ long) ∙ ap (formatOf s) (sym front) ∙ format-take s n ws long
+same-format s o b least =
+    let long : 18 < length (o .words) = omega (arith, words-least least (passed o b), b .opened) in
+    ap (formatOf s) (o .closedLater) ∙ format-front s (o .words) _ _ long ∙ sym (ap (formatOf s) (o .closed))

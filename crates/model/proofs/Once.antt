@@ -6,32 +6,23 @@ use native.Mathlib.Decide.{decLe}
 use mathlib.Core.Path.{_≡_, sym}
 use mathlib.Core.Logic.{by-cases}
 use mathlib.Core.Bool.{Bool, _||_}
-use mathlib.Core.List.{List, [], _∷_}
-use lib.ListN.{length, getD, take}
+use mathlib.Core.List.{List}
+use lib.ListN.{length, take}
 use lib.Dec.{T, eqb, eqb→eq}
 use Rattle.model.specs.Lists.{any}
 use Rattle.model.specs.Words.{between}
 use Rattle.model.specs.Codes.{genesisType, thresholdType}
 use Rattle.model.specs.Format.{Format}
 use Rattle.model.specs.Item.{code}
-use Rattle.model.specs.History.{History, Entry, absent, entry, itemNo, typed, parentNumber, childOf}
+use Rattle.model.specs.History.{History, Entry, entry, itemNo, typed, parentNumber, childOf}
 use Rattle.model.specs.Only.{onBoardOk, underParentOk, underBallotOk}
 use Rattle.model.specs.Roll.{Eligibility}
 use Rattle.model.specs.Sound.{Meets, Passed}
-use Rattle.model.proofs.Tests.{eq→eqb, or-left, or-right, and-iff, implies-iff, not-iff, facts}
+use Rattle.model.proofs.Tests.{eq→eqb, and-iff, implies-iff, not-iff, facts}
 use Rattle.model.proofs.Rules.{only-rules}
-use Rattle.model.proofs.Numbers.{entry-inside}
+use Rattle.model.proofs.Numbers.{any-before, entry-inside}
 use Rattle.model.proofs.Beginnings.{made-at}
 use Rattle.model.proofs.Ancestry.{parent-of}
-
--- an item among the first m that passes a test
-pub any-before : (q : Entry → Bool) (h : History) (j m : ℕ) → j < length h → j < m → T (q (getD h j absent)) → T (any q (take m h))
-unfolding any
-any-before q [] j m l n t = absurd (not-suc-le-zero l)
-any-before q (e ∷ es) j zero l n t = absurd (not-suc-le-zero n)
-any-before q (e ∷ es) zero (suc m) l n t = or-left (q e) (any q (take m es)) t
-any-before q (e ∷ es) (suc j) (suc m) l n t =
-    or-right (q e) (any q (take m es)) (any-before q es j m (le-of-suc-le-suc l) (le-of-suc-le-suc n) t)
 
 module _ {f : Format} {on : Eligibility} {ws vs : List ℕ} {h : History} (p : Passed f on ws vs h) where
   -- entries that pass `kind` have none `beside` them, if none was there before

@@ -24,13 +24,13 @@ use Rattle.model.specs.Roll.{Eligibility}
 use Rattle.model.specs.Sound.{Passed}
 use Rattle.model.proofs.Tests.{by-test, passes, is-true, is-false, eq→eqb, facts}
 use Rattle.model.proofs.Lists.{Every, every-map}
-use Rattle.model.proofs.Numbers.{entry-take, entry-inside, first-found, one-main}
+use Rattle.model.proofs.Numbers.{any-before, entry-take, entry-inside, first-found, one-main}
 use Rattle.model.proofs.State.{any-first}
 use Rattle.model.proofs.Table.{parentType}
 use Rattle.model.proofs.Entries.{orderly, fine-at, typed-main}
 use Rattle.model.proofs.Beginnings.{made-at}
 use Rattle.model.proofs.Ancestry.{parent-of, numbered}
-use Rattle.model.proofs.Once.{any-before, one-under-ballot}
+use Rattle.model.proofs.Once.{one-under-ballot}
 use Rattle.model.proofs.Closers.{closer-closes, closer-of}
 use Rattle.model.proofs.Rows.{counted-casts}
 

@@ -24,9 +24,8 @@ use Rattle.model.specs.Content.{defines, contestsOk, enables, mayVote, g
 use Rattle.model.proofs.Tests.{by-test, passes, by-if, not-iff, or-left, or-right, eq→eqb, and-iff, eqb-iff, leb-iff, same-iff, facts, tests}
 use Rattle.model.proofs.Rules.{andNothing, alone}
 use Rattle.model.proofs.Lists.{Every, every, any-kept}
-use Rattle.model.proofs.Numbers.{entry-inside, first-found}
+use Rattle.model.proofs.Numbers.{any-before, entry-inside, first-found}
 use Rattle.model.proofs.State.{any-first}
-use Rattle.model.proofs.Once.{any-before}
 use Rattle.model.proofs.Sets.{set-all}
 
 -- the counts of the types in the order of their codes, where a commitment, a cryptogram and a set have so many words: sets grow in types 6, 16

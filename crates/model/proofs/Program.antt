@@ -1,7 +1,6 @@
 -- What the program prints: it needs of the files only their byte counts and as many words as it has room for, and what it prints for empty
 -- files, for a sound board, and for genesis alone. Paper: "The auditing program". Assumes nothing.
 use Prim.Native.Nat.{ℕ, zero, suc, _*_, _/_, _%_, _≤_, _<_, zero-le}
-use native.Mathlib.Nat.{le-trans}
 use native.Mathlib.Omega.{arith}
 use native.Mathlib.Decide.{decLe}
 use mathlib.Core.Path.{_≡_, refl, sym, ap, subst, _∙_}
@@ -17,7 +16,7 @@ use Rattle.model.specs.Lists.{if_then_else_, count, keep, latest}
 use Rattle.model.specs.Words.{countOf}
 use Rattle.model.specs.Refusal.{tooLarge, truncated, badRoll}
 use Rattle.model.specs.Format.{Format, verdictSize}
-use Rattle.model.specs.Item.{itemLength, behind, code, wordsOf}
+use Rattle.model.specs.Item.{itemLength, behind, code}
 use Rattle.model.specs.Types.{Row, rowOf, fits, table}
 use Rattle.model.specs.History.{History, Entry, main, entryOf}
 use Rattle.model.specs.Counted.{counted, totalWeight}
@@ -33,6 +32,7 @@ use Rattle.model.proofs.Table.{countWithin, count-within-law}
 use Rattle.model.proofs.Entries.{orderly, typed-main, first-genesis}
 use Rattle.model.proofs.SoundAccepted.{no-words}
 use Rattle.model.proofs.Acceptance.{accepted↔sound}
+use Rattle.model.proofs.Unchecked.{words-least}
 use Rattle.model.proofs.Roll.{good-roll}
 
 -- ---- verdict words past 3,430
@@ -122,22 +122,6 @@ words-cut f ws vs roll least short =
     ∙ verdicts-cut f ws (take verdictLimit vs) vs roll indexNeed ballotNeed (items-cut f (onRoll roll) ws vs least short itemLimit [] 0 zero-le)
 
 -- ---- how many items
-
-least-more : (h : History) (e : Entry) (ws us : List ℕ) → leastItem * length h ≤ length ws → leastItem ≤ length us
-    → leastItem * length (h ++ (e ∷ [])) ≤ length (ws ++ us)
-least-more h e ws us l m = omega (arith, length-append h (e ∷ []), length-append ws us)
-
-item-least : (f : Format) (n : ℕ) → itemLength f 0 ≤ itemLength f n
-unfolding itemLength
-item-least f n = omega arith
-
--- items have at least so many words
-pub words-least : {f : Format} {on : Eligibility} {ws vs : List ℕ} {h : History} → leastItem ≤ itemLength f 0 → Passed f on ws vs h → leastItem * length h ≤ length ws
-unfolding itemLength
-words-least least Passed.none = omega arith
-words-least {f} least (next ws vs h v i p m) =
-    least-more h (entryOf h (length ws) i) ws (wordsOf i) (words-least least p)
-    (subst (leastItem ≤_) (sym (length-words f i (m .shaped))) (le-trans least (item-least f (countOf (i .head)))))
 
 -- a board that the program takes has at most 381 items
 pub few-items : {f : Format} {ws vs roll : List ℕ} {h : History} → leastItem ≤ itemLength f 0 → Sound f ws vs roll h → length ws ≤ programLimit → length h ≤ programItems

@@ -1,15 +1,15 @@
 -- The formats of boards: three curves and two widths of sets, their sizes, and that a board's depends on its first 19 words.
 -- Paper: requests (v) and (ix). Assumes nothing.
-use Prim.Native.Nat.{ℕ, zero, suc, _+_, _/_, _%_, _^_, _≤_, _<_}
+use Prim.Native.Nat.{ℕ, zero, suc, _+_, _%_, _≤_, _<_}
 use native.Mathlib.Omega.{arith}
 use native.Mathlib.Decide.{decLt}
 use mathlib.Core.Path.{_≡_, refl, sym, ap, _∙_}
 use mathlib.Core.Logic.{_≢_, _↔_, by-cases}
-use mathlib.Core.Bool.{Bool, true, false, not, _&&_}
-use mathlib.Core.List.{List, [], _∷_}
+use mathlib.Core.Bool.{_&&_}
+use mathlib.Core.List.{List, [], _∷_, _++_}
 use lib.Dec.{T, eqb}
 use lib.ListN.{length, getD, take, List·getD-eq-default}
-use lib.Seq.{getD-take}
+use lib.Seq.{getD-take, take-append-seam}
 use borrow.Author.Tests.{eq-eqb}
 use Rattle.model.specs.Lists.{if_then_else_}
 use Rattle.model.specs.Format.{Format, Hashes, Curve, secp256r1, secp384r1, secp521r1, formatOn}
@@ -162,3 +162,9 @@ unfolding traitsOf
 format-take s n ws l =
     let one : 0 < n = omega arith in
     rw (getD-take n ws 0 0 one, getD-take n ws traitsPlace 0 l)
+
+-- so boards that begin with the same words, more than 18 of them, have one format
+pub format-front : (s : Hashes) (xs ys zs : List ℕ) → traitsPlace < length xs → formatOf s (xs ++ ys) ≡ formatOf s (xs ++ zs)
+format-front s xs ys zs l =
+    sym (format-take s (length xs) (xs ++ ys) l) ∙ ap (formatOf s) (take-append-seam xs ys ∙ sym (take-append-seam xs zs))
+    ∙ format-take s (length xs) (xs ++ zs) l

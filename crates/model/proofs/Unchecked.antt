@@ -1,10 +1,10 @@
 -- The first n items of the words, checked or not: what they are, and that the items which are passed, as those of a sound board, are these.
 -- So a contract may speak of `history` and `placeOf`, whatever the words are. Assumes nothing.
-use Prim.Native.Nat.{ℕ, zero, suc, _+_, _≤_, _<_}
-use native.Mathlib.Nat.{not-suc-le-zero}
+use Prim.Native.Nat.{ℕ, zero, suc, _+_, _*_, _≤_, _<_}
+use native.Mathlib.Nat.{not-suc-le-zero, le-trans}
 use native.Mathlib.Numerals.{add-one}
 use native.Mathlib.Omega.{arith}
-use mathlib.Core.Path.{_≡_, refl, sym, ap, subst₂, _∙_}
+use mathlib.Core.Path.{_≡_, refl, sym, ap, subst, subst₂, _∙_}
 use mathlib.Core.Logic.{by-cases}
 use native.Mathlib.Decide.{decLe}
 use mathlib.Core.List.{List, [], _∷_, _++_, append-assoc}
@@ -13,10 +13,11 @@ use lib.Seq.{take-all, take-append-le}
 use Rattle.model.specs.Words.{countOf}
 use Rattle.model.specs.Format.{Format}
 use Rattle.model.specs.Item.{Item, itemAt, itemLength, behind, wordsOf}
-use Rattle.model.specs.History.{History, entry, entryOf, placeOf, history}
+use Rattle.model.specs.History.{History, Entry, entry, entryOf, placeOf, history}
 use Rattle.model.specs.Roll.{Eligibility, onRoll}
 use Rattle.model.specs.Audit.{refused, accepted, audit}
 use Rattle.model.specs.Sound.{Passed, next, Sound, Beginning}
+use Rattle.model.specs.Program.{leastItem}
 use Rattle.model.proofs.Numbers.{entry-append, entry-snoc}
 use Rattle.model.proofs.Parsing.{length-words, item-here}
 use Rattle.model.proofs.Acceptance.{accepted↔sound, refused-stopped}
@@ -89,9 +90,31 @@ pub accepted-history : (f : Format) (ws vs roll : List ℕ) (index ballots : ℕ
     → h ≡ history f ws (length h)
 accepted-history f ws vs roll index ballots h e = sound-history (accepted↔sound f ws vs roll index ballots h .0 e .0)
 
+pub accepted-first : (f : Format) (ws vs roll : List ℕ) (index ballots : ℕ) (h : History) → audit f ws vs roll index ballots ≡ accepted h
+    → (k : ℕ) → k ≤ length h → take k h ≡ history f ws k
+accepted-first f ws vs roll index ballots h e k l = ap (take k) (accepted-history f ws vs roll index ballots h e) ∙ history-take f ws (length h) k l
+
 -- the items that a refusal counts are the first ones, and meet the rules
 pub refused-history : (f : Format) (ws vs roll : List ℕ) (index ballots n k : ℕ) → audit f ws vs roll index ballots ≡ refused n k
     → Beginning f (onRoll roll) ws vs (history f ws k)
 refused-history f ws vs roll index ballots n k e =
     let s = refused-stopped f ws vs roll index ballots n k e in
     rw (beginning-history (s .beginning), s .count) at (s .beginning)
+
+-- ---- how many words passed items have
+
+least-more : (h : History) (e : Entry) (ws us : List ℕ) → leastItem * length h ≤ length ws → leastItem ≤ length us
+    → leastItem * length (h ++ (e ∷ [])) ≤ length (ws ++ us)
+least-more h e ws us l m = omega (arith, length-append h (e ∷ []), length-append ws us)
+
+item-least : (f : Format) (n : ℕ) → itemLength f 0 ≤ itemLength f n
+unfolding itemLength
+item-least f n = omega arith
+
+-- items have at least so many words
+pub words-least : {f : Format} {on : Eligibility} {ws vs : List ℕ} {h : History} → leastItem ≤ itemLength f 0 → Passed f on ws vs h → leastItem * length h ≤ length ws
+unfolding itemLength
+words-least least Passed.none = omega arith
+words-least {f} least (next ws vs h v i p m) =
+    least-more h (entryOf h (length ws) i) ws (wordsOf i) (words-least least p)
+    (subst (leastItem ≤_) (sym (length-words f i (m .shaped))) (le-trans least (item-least f (countOf (i .head)))))

@@ -9,8 +9,9 @@ use Rattle.model.specs.Lists.{if_then_else_, count}
 use Rattle.model.specs.Refusal.{noSuchItem}
 use Rattle.model.specs.Format.{Format}
 use Rattle.model.specs.History.{History, main, mainItems, mainItem, endAddress}
-use Rattle.model.specs.Audit.{Outcome, unread, refused, accepted}
+use Rattle.model.specs.Audit.{Outcome}
 use Rattle.model.specs.Report.{indexAfter, ballotsAfter, outside}
+use Rattle.model.specs.Above.{answered, bufferAfter}
 use Rattle.model.specs.Compare.{Comparison, apart, same, collision, compare, SameAddress, Agreed, Same, Collision}
 use Rattle.model.specs.Alone.{SameStart}
 
@@ -28,30 +29,22 @@ pub data ComparingAnswer : Type 0 where
 -- the kept board is accepted with the history g. "Main number 0 or any past the last is 19, naming the later board and its item count"
 unfoldable pub answerLater : History → Outcome → ℕ → ComparingAnswer
 unfolding if_then_else_
-answerLater g (unread n) b = refusedBoard laterBoard n 0
-answerLater g (refused n k) b = refusedBoard laterBoard n k
-answerLater g (accepted h) b =
-    if outside b (count main h) then refusedBoard laterBoard noSuchItem (length h)
-    else compared (compare (mainItems g) (mainItems h) b)
+answerLater g later b =
+    answered (refusedBoard laterBoard)
+    (λ h. if outside b (count main h) then refusedBoard laterBoard noSuchItem (length h) else compared (compare (mainItems g) (mainItems h) b))
+    later
 
 -- "a refusal names the board and stops there"
 unfoldable pub comparingAnswer : Outcome → Outcome → ℕ → ComparingAnswer
-comparingAnswer (unread n) later b = refusedBoard keptBoard n 0
-comparingAnswer (refused n k) later b = refusedBoard keptBoard n k
-comparingAnswer (accepted g) later b = answerLater g later b
+comparingAnswer kept later b = answered (refusedBoard keptBoard) (λ g. answerLater g later b) kept
 
--- The kept board's tables are as its own audit leaves them (`indexAfter`, `ballotsAfter`), whatever comes after it.
--- A table of the later board: what it held, "unchanged if the kept one is refused", and else what the later board's audit left in it
-unfoldable pub laterAfter : Outcome → List ℕ → List ℕ → List ℕ
-laterAfter (unread n) held left = held
-laterAfter (refused n k) held left = held
-laterAfter (accepted g) held left = left
-
+-- The kept board's tables are as its own audit leaves them (`indexAfter`, `ballotsAfter`), whatever comes after it. A table of the later board
+-- is "unchanged if the kept one is refused", and else what the later board's audit leaves
 abbrev pub laterIndexAfter : Outcome → Outcome → List ℕ → List ℕ
-laterIndexAfter kept later s = laterAfter kept s (indexAfter later s)
+laterIndexAfter kept later = bufferAfter kept (λ g. indexAfter later)
 
 abbrev pub laterBallotsAfter : Outcome → Outcome → List ℕ → List ℕ
-laterBallotsAfter kept later s = laterAfter kept s (ballotsAfter later s)
+laterBallotsAfter kept later = bufferAfter kept (λ g. ballotsAfter later)
 
 -- ---- what is promised of the answer for two accepted boards, the kept one of the format f with the history g and the later one of the
 -- format f′ with the history h, where main number b is one of the later board's

@@ -89,6 +89,10 @@ badRoll = 20
 abbrev pub notOnRoll : ℕ
 notOnRoll = 21
 
+-- 22 bad tray: "not whole receipts, or too many"; it "comes before the audit" (request (ii))
+abbrev pub badReceipts : ℕ
+badReceipts = 22
+
 -- ---- which of them an audit gives
 
 -- before anything is read or written

@@ -44,6 +44,8 @@ pub enum Refusal {
     BadRoll,
     // 21 not on the roll
     NotOnRoll,
+    // 22 bad tray
+    BadReceipts,
 }
 
 // What the checks of an item find.
@@ -77,5 +79,6 @@ pub fn number_of(refusal: Refusal) -> u32
         Refusal::NoSuchItem => 19,
         Refusal::BadRoll => 20,
         Refusal::NotOnRoll => 21,
+        Refusal::BadReceipts => 22,
     }
 }

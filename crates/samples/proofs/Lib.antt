@@ -7,3 +7,4 @@ pub mod SampleRoll
 pub mod SampleWide
 pub mod SampleCurves
 pub mod SampleGrowth
+pub mod SampleReceipts

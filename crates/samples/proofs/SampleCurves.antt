@@ -35,16 +35,16 @@ abbrev on : Curve → ℕ → List Signed
 on c traits = electionOn c (traits ∷ []) (2 ^ c .spare) 0x80000 (replicate 8 0x80000)
 
 -- "1 SHA-384, 2 SHA-512" in bits 1 and 2
-abbrev larger : List Signed
+abbrev pub larger : List Signed
 larger = on secp384r1 2
 
 abbrev largest : List Signed
 largest = on secp521r1 4
 
-abbrev formatIn : List Signed → Format
+abbrev pub formatIn : List Signed → Format
 formatIn ss = formatOf toys (boardOf ss)
 
-abbrev past : List Signed → History
+abbrev pub past : List Signed → History
 past ss = history (formatIn ss) (boardOf ss) 21
 
 -- ---- they are accepted, and sound
@@ -63,6 +63,9 @@ module _ (ss : List Signed) (all : items-in (ownAnswer ss) ≡ 21) where
 
   is-sound : Sound (formatIn ss) (boardOf ss) (verdictsIn ss) roll (past ss)
   is-sound = accepted↔sound (formatIn ss) (boardOf ss) (verdictsIn ss) roll indexNeed ballotNeed (past ss) .0 is-accepted .0
+
+pub larger-accepted : ownAnswer larger ≡ accepted (past larger)
+larger-accepted = is-accepted larger (all-accepted .0)
 
 pub larger-sound : Sound (formatIn larger) (boardOf larger) (verdictsIn larger) roll (past larger)
 larger-sound = is-sound larger (all-accepted .0)

@@ -1,7 +1,8 @@
 -- `compare` meets its contract, by what the kept board's audit answered. Assumes nothing.
 use borrow.Author.Needs.{needs}
 use Rattle.audit.proofs.Laws.{accepted-outcome, refused-outcome}
-use Rattle.entries.proofs.Compared.{accepted-board, kept-refused, later-unchanged, kept-accepted, later-audited}
+use Rattle.entries.proofs.Left.{left-refused, left-accepted}
+use Rattle.entries.proofs.Compared.{accepted-board, kept-refused, kept-accepted}
 use Rattle.entries.proofs.comparing.compare.Statement.{statement}
 use Rattle.entries.proofs.comparing.compare.Tie as tie
 
@@ -35,7 +36,7 @@ returns c =
     let s = audited .before .before .before .before .before .before .before .before .before .before .before .before .before .args in
     let r = audited .audit in
     let refused = refused-outcome (s .kept .now) (s .kept-verdicts .now) (s .kept-roll .now) (s .kept-index .now) (s .kept-ballots .now) (r .result) (r .ensures) (matched .answer .given .1) in
-    (kept-refused _ _ refused, (r .ensures .1 .0, (r .ensures .1 .1, (later-unchanged _ _ refused, later-unchanged _ _ refused))))
+    (kept-refused _ _ refused, (r .ensures .1 .0, (r .ensures .1 .1, (left-refused _ _ refused, left-refused _ _ refused))))
 
 same-length-3 : tie.Need-same-length-3
 same-length-3 c = search needs
@@ -58,7 +59,7 @@ returns-2 c =
     let accepts = accepted-outcome (s .kept .now) (s .kept-verdicts .now) (s .kept-roll .now) (s .kept-index .now) (s .kept-ballots .now) (r .result) (r .ensures) (matched .answer2 .given .1) in
     let later = c .before .before .before .before .compare-later .ensures in (
       kept-accepted accepts _ _ (later .0),
-      (r .ensures .1 .0, (r .ensures .1 .1, (later-audited accepts _ _ (later .1 .0), later-audited accepts _ _ (later .1 .1)))),
+      (r .ensures .1 .0, (r .ensures .1 .1, (left-accepted _ _ accepts (later .1 .0), left-accepted _ _ accepts (later .1 .1)))),
     )
 
 pub compare-spec : {M : Type 1} → statement M
