@@ -1,25 +1,28 @@
 //! One call of an entry over the C interface: buffers of any length, full of junk and with guard words on
 //! both sides, go to an implementation, and rolls between pairs that can change the answer if they are read
-//! (`guard_pair`); the reference is given the same words. The call can then be held to the reference word by
-//! word, to the boards alone, or to stored tables. Which lengths are tried with which boards is told in `checks`.
+//! (`guard_pair`), and receipts between receipts; the reference is given the same words. The call can then be held to the
+//! reference word by word, to the boards alone, or to stored tables and answers. Which lengths are tried with which
+//! boards is told in `checks`, which receipts in `presented`.
 
 use crate::ancestry::ancestry;
+use crate::answered::{broken_answers, check_answers, OF_ANSWERS};
 use crate::audit::{audit, is_on_roll, Board};
 use crate::checks::Case;
 use crate::compare::{compare, Comparison, Tables};
 use crate::format::*;
 use crate::interface::*;
 use crate::random::Random;
+use crate::receipts::receipts;
 use crate::told::{broken, check_end, check_told, PROPERTIES};
 
 /// How often an entry gave each answer: by refusal number, or as follows.
-pub type Tally = [usize; 26];
+pub type Tally = [usize; 27];
 
 /// For comparing, and where an answer buffer is too short.
-pub const APART: usize = 22;
-pub const SAME: usize = 23;
-pub const COLLISION: usize = 24;
-pub const SHORT_ANSWER: usize = 25;
+pub const APART: usize = 23;
+pub const SAME: usize = 24;
+pub const COLLISION: usize = 25;
+pub const SHORT_ANSWER: usize = 26;
 
 /// A call of an entry: what it gave, and its buffers by name.
 pub struct Call<'a> {
@@ -31,10 +34,12 @@ pub struct Call<'a> {
     given: bool,
     expected: bool,
     buffers: Vec<(Buffer, &'static str)>,
-    /// As they were passed, and by name.
-    rolls: Vec<(GuardedRoll<'a>, &'static str)>,
+    /// The rolls and the receipts as they were passed, and by name.
+    read: Vec<(Guarded<'a>, &'static str)>,
     /// In the order in which they are audited.
     boards: Vec<Passed<'a>>,
+    /// The receipts, where the entry answers them. The buffer of the answers is then the one behind the answer.
+    receipts: Option<&'a [u32]>,
 }
 
 /// What an answer says of a board: the refusal, or 0, and the items, where it tells them.
@@ -65,7 +70,7 @@ impl Call<'_> {
             return Err(format!("{} gives {}, not {}", self.entry, self.given, self.expected));
         }
         let buffers = self.buffers.iter().try_for_each(|(buffer, what)| buffer.same(what));
-        let held = buffers.and_then(|()| self.rolls.iter().try_for_each(|(roll, what)| roll.same(what)));
+        let held = buffers.and_then(|()| self.read.iter().try_for_each(|(words, what)| words.same(what)));
         held.map_err(|message| format!("{}: {message}", self.entry))
     }
 
@@ -76,7 +81,50 @@ impl Call<'_> {
             check_told(board.board.words, board.board.roll, index.given(), ballots.given())
                 .map_err(|message| format!("{}: {what}: {message}", self.entry))?;
         }
-        self.hold_end()
+        self.hold_answered().and_then(|()| self.hold_end())
+    }
+
+    /// Holds the answers to receipts to them and the board, if that is accepted.
+    fn hold_answered(&self) -> Result<(), String> {
+        match (self.receipts, &self.boards[0]) {
+            (Some(receipts), Passed { board, accepted: true, .. }) => {
+                check_answers(board.words, receipts, self.answers().given())
+                    .map_err(|message| format!("{}: {message}", self.entry))
+            }
+            _ => Ok(()),
+        }
+    }
+
+    /// Holds the answers to receipts to these, behind which all words are zero; without any, to what stood there before.
+    pub fn hold_answers(&self, expected: Option<&[u32]>) -> Result<(), String> {
+        let (given, mut right) = (self.answers().given(), self.answers().before().to_vec());
+        if let Some(expected) = expected {
+            right.fill(0);
+            right[..expected.len()].copy_from_slice(expected);
+        }
+        match (0..right.len()).find(|&at| given[at] != right[at]) {
+            Some(at) => Err(format!("{}: word {at} of the answers is {}, not {}", self.entry, given[at], right[at])),
+            None => Ok(()),
+        }
+    }
+
+    /// Which properties the answers to receipts break; none where there are no such answers.
+    pub fn broken_answers(&self) -> [bool; OF_ANSWERS.len()] {
+        match (self.receipts, &self.boards[0]) {
+            (Some(receipts), Passed { board, accepted: true, .. }) => {
+                broken_answers(board.words, receipts, self.answers().given()).expect("an answer to each receipt")
+            }
+            _ => [false; OF_ANSWERS.len()],
+        }
+    }
+
+    /// The words of the answers to receipts.
+    pub fn given_answers(&self) -> &[u32] {
+        self.answers().given()
+    }
+
+    fn answers(&self) -> &Buffer {
+        &self.buffers[1].0
     }
 
     /// Holds the end address in the answer of an audit to the board, if that is accepted.
@@ -111,6 +159,11 @@ impl Call<'_> {
             }
         }
         Ok(())
+    }
+
+    /// What the answer says of the first board; nothing where there is none.
+    pub fn said(&self) -> Option<Said> {
+        self.said
     }
 
     /// Holds the answer to what is known of the first board.
@@ -155,7 +208,7 @@ pub fn call_audit<'a>(
     }
     let (il, bl, al) = (index.len(), ballots.len(), answer.len());
     let board = case.board();
-    let roll = GuardedRoll::new(board, random);
+    let roll = Guarded::roll(board, random);
     // Each pointer is of a live buffer of at least the length given with it.
     #[rustfmt::skip]
     let given = unsafe {
@@ -169,8 +222,8 @@ pub fn call_audit<'a>(
     });
     let boards = vec![Passed { board, accepted: said.is_some_and(|said| said.number == 0), index: 1 }];
     let buffers = vec![(answer, "answer"), (index, "index table"), (ballots, "ballot table")];
-    let rolls = vec![(roll, "roll")];
-    Call { entry: "audit".to_string(), has_end: true, said, given, expected: enough, buffers, rolls, boards }
+    let (entry, read) = ("audit".to_string(), vec![(roll, "roll")]);
+    Call { entry, has_end: true, said, given, expected: enough, buffers, read, boards, receipts: None }
 }
 
 /// Calls the comparison at some main number, and the reference beside it. The lengths are of the kept board's two
@@ -214,8 +267,8 @@ pub fn call_compare_at<'a>(
     } else {
         tally[SHORT_ANSWER] += 1;
     }
-    let kept_roll = GuardedRoll::new(kept, random);
-    let later_roll = GuardedRoll::new(later, random);
+    let kept_roll = Guarded::roll(kept, random);
+    let later_roll = Guarded::roll(later, random);
     // Equal rolls are at times one.
     let one = kept.roll == later.roll && random.chance(50);
     let later_pointer = if one { kept_roll.pointer() } else { later_roll.pointer() };
@@ -242,9 +295,9 @@ pub fn call_compare_at<'a>(
         (li, "later index table"),
         (lb, "later ballot table"),
     ];
-    let rolls = vec![(kept_roll, "kept roll"), (later_roll, "later roll")];
+    let read = vec![(kept_roll, "kept roll"), (later_roll, "later roll")];
     let entry = format!("compare at main {number}");
-    Some(Call { entry, has_end: false, said, given, expected: enough, buffers, rolls, boards })
+    Some(Call { entry, has_end: false, said, given, expected: enough, buffers, read, boards, receipts: None })
 }
 
 /// Whether the kept board and the later one were accepted, by a comparison's answer.
@@ -291,7 +344,7 @@ pub fn call_ancestry<'a>(
     let number = asked(item_count(case), random);
     let enough = answer.len() >= ANCESTRY_ANSWER;
     let board = case.board();
-    let roll = GuardedRoll::new(board, random);
+    let roll = Guarded::roll(board, random);
     if enough {
         let (i, b, l) = (&mut index.reference, &mut ballots.reference, &mut list.reference);
         let expected = ancestry(board.words, board.verdicts, board.roll, number, i, b, l);
@@ -316,9 +369,51 @@ pub fn call_ancestry<'a>(
     let accepted = said.is_some_and(|said| said.number == 0);
     let boards = vec![Passed { board, accepted, index: 2 }];
     let buffers = vec![(answer, "answer"), (list, "list"), (index, "index table"), (ballots, "ballot table")];
-    let rolls = vec![(roll, "roll")];
+    let read = vec![(roll, "roll")];
     let entry = format!("ancestry of item {number}");
-    Some(Call { entry, has_end: false, said, given, expected: enough, buffers, rolls, boards })
+    Some(Call { entry, has_end: false, said, given, expected: enough, buffers, read, boards, receipts: None })
+}
+
+/// Calls the entry for receipts, and the reference beside it. The lengths are of the index table, the ballot table, the
+/// answers to receipts and the answer. None where the library has no such entry.
+pub fn call_receipts<'a>(
+    with: &Interface,
+    board: Board<'a>,
+    asked: &'a [u32],
+    lengths: [usize; 4],
+    random: &mut Random,
+    tally: &mut Tally,
+) -> Option<Call<'a>> {
+    let entry = with.receipts?;
+    let [mut index, mut ballots, mut answers, mut answer] = lengths.map(|len| Buffer::new(len, random));
+    let enough = answer.len() >= AUDIT_ANSWER;
+    if enough {
+        let tables = Tables { index: &mut index.reference, ballots: &mut ballots.reference };
+        let report = receipts(board, asked, tables, &mut answers.reference);
+        put(&mut answer, &audit_words(&report));
+        tally[report.number as usize] += 1;
+    } else {
+        tally[SHORT_ANSWER] += 1;
+    }
+    let (il, bl, sl, al) = (index.len(), ballots.len(), answers.len(), answer.len());
+    let roll = Guarded::roll(board, random);
+    let passed = Guarded::receipts(board, asked, random);
+    #[rustfmt::skip]
+    let given = unsafe {
+        entry(
+            board.words.as_ptr(), board.words.len(), board.verdicts.as_ptr(), board.verdicts.len(),
+            roll.pointer(), board.roll.len(), passed.pointer(), asked.len(),
+            index.pointer(), il, ballots.pointer(), bl, answers.pointer(), sl, answer.pointer(), al)
+    };
+    let said = enough.then(|| Said {
+        number: answer.given()[audit_answer::NUMBER],
+        items: Some(answer.given()[audit_answer::ITEMS]),
+    });
+    let boards = vec![Passed { board, accepted: said.is_some_and(|said| said.number == 0), index: 2 }];
+    let buffers = vec![(answer, "answer"), (answers, "answers"), (index, "index table"), (ballots, "ballot table")];
+    let read = vec![(roll, "roll"), (passed, "receipts")];
+    let entry = format!("receipts, {} words", asked.len());
+    Some(Call { entry, has_end: true, said, given, expected: enough, buffers, read, boards, receipts: Some(asked) })
 }
 
 // ---- the numbers that are asked for ----
@@ -356,27 +451,43 @@ fn main_count(words: &[u32]) -> usize {
     places(words).filter(|&place| kind(words[place]) == MAIN).count()
 }
 
-// ---- rolls ----
+// ---- rolls and receipts ----
 
-/// A roll as it is passed: between two guard pairs, or where the board itself has these words.
-struct GuardedRoll<'a> {
+/// Words as they are passed for reading: between guard words, or where the board itself has them.
+struct Guarded<'a> {
     guarded: Vec<u32>,
     before: Vec<u32>,
+    /// How many guard words there are on each side.
+    guard: usize,
     inside: Option<&'a [u32]>,
 }
 
-impl<'a> GuardedRoll<'a> {
-    fn new(board: Board<'a>, random: &mut Random) -> GuardedRoll<'a> {
-        let guard = guard_pair(board);
-        let guarded = [&guard, board.roll, &guard].concat();
-        let inside = if random.chance(50) { find(board.words, board.roll) } else { None };
-        GuardedRoll { before: guarded.clone(), guarded, inside }
+impl<'a> Guarded<'a> {
+    fn new(words: &[u32], guard: &[u32], inside: Option<&'a [u32]>) -> Guarded<'a> {
+        let guarded = [guard, words, guard].concat();
+        Guarded { before: guarded.clone(), guarded, guard: guard.len(), inside }
+    }
+
+    /// A roll, between two guard pairs.
+    fn roll(board: Board<'a>, random: &mut Random) -> Guarded<'a> {
+        let inside = random.chance(50) && board.roll.len() <= 2 * ROLL_ROW;
+        let inside = if inside { find(board.words, board.roll, ROLL_ROW) } else { None };
+        Guarded::new(board.roll, &guard_pair(board), inside)
+    }
+
+    /// Receipts, between two of the first item.
+    fn receipts(board: Board<'a>, asked: &[u32], random: &mut Random) -> Guarded<'a> {
+        let curve = Layout::of(board.words).curve;
+        let end = board.words.first().map_or(0, |&head| count(head) + curve.frame());
+        let guard = board.words.get(..end).map_or(&[][..], |item| &item[item.len().saturating_sub(curve.receipt())..]);
+        let inside = random.chance(50) && asked.len() == curve.receipt();
+        Guarded::new(asked, guard, if inside { find(board.words, asked, 0) } else { None })
     }
 
     fn pointer(&self) -> *const u32 {
         match self.inside {
             Some(words) => words.as_ptr(),
-            None => self.guarded[ROLL_ROW..].as_ptr(),
+            None => self.guarded[self.guard..].as_ptr(),
         }
     }
 
@@ -407,11 +518,10 @@ pub fn places(words: &[u32]) -> impl Iterator<Item = usize> + Clone + '_ {
     std::iter::successors(Some(0).filter(is_head), next)
 }
 
-/// The words of a short roll where they stand in the board, with others behind them.
-fn find<'a>(board: &'a [u32], roll: &[u32]) -> Option<&'a [u32]> {
-    let len = Some(roll.len()).filter(|&len| len <= 2 * ROLL_ROW)?;
-    let mut parts = board.windows(len + ROLL_ROW).map(|part| &part[..len]);
-    parts.find(|&words| words == roll)
+/// These words where they stand in the board, with so many others behind them.
+fn find<'a>(board: &'a [u32], wanted: &[u32], behind: usize) -> Option<&'a [u32]> {
+    let mut parts = board.windows(wanted.len() + behind).map(|part| &part[..wanted.len()]);
+    parts.find(|&words| words == wanted)
 }
 
 // ---- buffers ----
@@ -446,9 +556,12 @@ impl Buffer {
         self.guarded[GUARD..].as_mut_ptr()
     }
 
-    /// The words between the guards, as the implementation left them.
+    /// The words between the guards, as the implementation left them, and as they were.
     fn given(&self) -> &[u32] {
         &self.guarded[GUARD..GUARD + self.len()]
+    }
+    fn before(&self) -> &[u32] {
+        &self.before[GUARD..GUARD + self.len()]
     }
 
     fn same(&self, what: &str) -> Result<(), String> {

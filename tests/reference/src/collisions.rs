@@ -1,9 +1,11 @@
 //! Collisions, with a hash so weak that they can be made: what the curves' hashes will not show.
 
-use crate::audit::{audit_with, Rules, RULES};
+use crate::answered::check_answers;
+use crate::audit::{audit_with, Board, Report, Rules, RULES};
 use crate::compare::{compare_with, Comparison, Tables};
 use crate::format::*;
 use crate::plan::{Laid, Plan};
+use crate::presented::Presented;
 use crate::random::Random;
 use crate::sound::{any_shape, make_with, Made, Traits};
 use crate::told::check_told;
@@ -132,6 +134,8 @@ pub struct Seen {
     pub on_curve: [usize; CURVES.len()],
     /// Ends of two boards on different curves that have the same words, up to zeros, and are apart.
     pub curves_apart: usize,
+    /// Receipts of a cast behind another with its address and its signature, on each curve.
+    pub second_casts: [usize; CURVES.len()],
 }
 
 /// The hash of a seed: both by turns.
@@ -261,5 +265,50 @@ fn compare_at_each(hash: Hash, boards: [(&Laid, &Plan); 2], seen: &mut Seen) -> 
             Comparison::Refused { .. } => return Err("refused".to_string()),
         }
     }
+    Ok(())
+}
+
+// ---- receipts ----
+
+/// One bit for casts, in the last word of the address, so that several casts have one address. Other items have the
+/// curve's hash.
+fn weak_for_casts(curve: Curve, message: &[u32]) -> Digest {
+    if code(message[0]) != CAST {
+        return curve.hash(message);
+    }
+    let mut words = ZEROS;
+    words[curve.widths().address - 1] = 1 + weak(message) % 2;
+    words
+}
+
+/// The entry for receipts by any rules.
+pub type ReceiptsWith = fn(Rules, Board, &[u32], Tables, &mut [u32]) -> Report;
+
+/// A board with several casts of one address and one signature: the first of them is answered. As a SHA-256 of casts will
+/// not show it, no other check does.
+pub fn check_receipts(seed: u64, entry: ReceiptsWith, seen: &mut Seen) -> Result<(), String> {
+    let random = &mut Random::new(seed);
+    let (shape, traits) = (any_shape(random, 150), Traits::any(random));
+    let mut plan = make_with(random, shape, traits).plan;
+    let common = plan.items[0].signature;
+    for item in &mut plan.items {
+        if random.chance(60) {
+            item.signature = common;
+        }
+    }
+    let laid = plan.lay_with(weak_for_casts);
+    let asked = Presented::of_all_items(&laid.words);
+    let (mut index, mut ballots, mut answers) = (vec![1; INDEX_NEED], vec![2; BALLOTS_NEED], vec![3; asked.buffer + 2]);
+    let tables = Tables { index: &mut index, ballots: &mut ballots };
+    let report = entry(rules(weak_for_casts), laid.board(), &asked.receipts, tables, &mut answers);
+    if (report.number, report.items as usize) != (0, plan.items.len()) {
+        return Err(format!("casts of one address, seed {seed}: refused {} at {}", report.number, report.items));
+    }
+    check_answers(&laid.words, &asked.receipts, &answers)
+        .map_err(|message| format!("casts of one address, seed {seed}: {message}"))?;
+    let receipts = asked.receipts.chunks_exact(plan.layout().curve.receipt());
+    let casts: Vec<&[u32]> = receipts.zip(&plan.items).filter(|(_, item)| item.code == CAST).map(|(r, _)| r).collect();
+    let seconds = (0..casts.len()).filter(|&at| casts[..at].contains(&casts[at])).count();
+    seen.second_casts[plan.layout().curve as usize] += seconds;
     Ok(())
 }

@@ -98,6 +98,11 @@ impl Curve {
         1 + 2 * self.widths().address + 2
     }
 
+    /// The words of a receipt: a signature, then an address.
+    pub const fn receipt(self) -> usize {
+        self.widths().signature + self.widths().address
+    }
+
     /// The address at a place.
     pub fn address(self, words: &[u32], at: usize) -> Digest {
         widened(&words[at..at + self.widths().address])

@@ -48,6 +48,10 @@ pub const LIST_NEED: usize = 2_048;
 /// open ballot, or under an item that is no ballot.
 pub const NO_ITEM: u32 = u32::MAX;
 
+/// The most receipts that are answered at once, and the answer to one that has no cast.
+pub const MAX_RECEIPTS: usize = 512;
+pub const NO_CAST: u32 = u32::MAX;
+
 const _: () = assert!(MAX_BALLOTS == (MAX_ITEMS - 5) / 5 && BALLOTS_NEED == 1_224);
 const _: () = assert!(INDEX_NEED == 10_240);
 const _: () = assert!(ROLL_MOST == 4_096);

@@ -49,6 +49,11 @@ const NAMES: &[(&str, usize)] = &[
     ("TIRFOLMA_LIST_WORDS", LIST_NEED),
     ("TIRFOLMA_ANCESTRY_NUMBER", ancestry_answer::NUMBER),
     ("TIRFOLMA_ANCESTRY_COUNT", ancestry_answer::COUNT),
+    ("TIRFOLMA_RECEIPTS", MAX_RECEIPTS),
+    ("TIRFOLMA_RECEIPT_WORDS", Curve::Secp256r1.receipt()),
+    ("TIRFOLMA_RECEIPT_WORDS_384", Curve::Secp384r1.receipt()),
+    ("TIRFOLMA_RECEIPT_WORDS_521", Curve::Secp521r1.receipt()),
+    ("TIRFOLMA_NO_CAST", NO_CAST as usize),
 ];
 
 /// Against a second #include. It alone has no value.
@@ -191,7 +196,7 @@ fn mistakes(text: &str) -> Result<Vec<Mistake>, String> {
 }
 
 /// What is wrong, the text that goes, the text in its place, and what the check must say.
-const MISTAKES: [[&str; 4]; 19] = [
+const MISTAKES: [[&str; 4]; 21] = [
     ["a length is missing", "#define TIRFOLMA_LIST_WORDS 2048\n", "", "the header does not define TIRFOLMA_LIST_WORDS"],
     [
         "a length is a comment",
@@ -278,6 +283,18 @@ const MISTAKES: [[&str; 4]; 19] = [
         "TIRFOLMA_ROLL_VOTER = 0,\n    TIRFOLMA_ROLL_WEIGHT = 1",
         "TIRFOLMA_ROLL_WEIGHT = 0,\n    TIRFOLMA_ROLL_VOTER = 1",
         "the header has '0' for TIRFOLMA_ROLL_WEIGHT, not 1",
+    ],
+    [
+        "receipts of two curves are as wide",
+        "#define TIRFOLMA_RECEIPT_WORDS_521 49",
+        "#define TIRFOLMA_RECEIPT_WORDS_521 36",
+        "the header has '36' for TIRFOLMA_RECEIPT_WORDS_521, not 49",
+    ],
+    [
+        "a receipt without a cast has 0",
+        "#define TIRFOLMA_NO_CAST 4294967295u",
+        "#define TIRFOLMA_NO_CAST 0",
+        "the header has '0' for TIRFOLMA_NO_CAST, not 4294967295",
     ],
     [
         "a product has a name that is defined below it",

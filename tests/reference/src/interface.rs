@@ -63,6 +63,10 @@ pub type CompareEntry = unsafe extern "C" fn(
 pub type AncestryEntry = unsafe extern "C" fn(
     *const u32, usize, *const u32, usize, *const u32, usize, usize,
     *mut u32, usize, *mut u32, usize, *mut u32, usize, *mut u32, usize) -> bool;
+#[rustfmt::skip]
+pub type ReceiptsEntry = unsafe extern "C" fn(
+    *const u32, usize, *const u32, usize, *const u32, usize, *const u32, usize,
+    *mut u32, usize, *mut u32, usize, *mut u32, usize, *mut u32, usize) -> bool;
 
 #[derive(Clone, Copy)]
 pub struct Interface {
@@ -70,6 +74,7 @@ pub struct Interface {
     /// None where the library has no such entry.
     pub compare: Option<CompareEntry>,
     pub ancestry: Option<AncestryEntry>,
+    pub receipts: Option<ReceiptsEntry>,
 }
 
 pub fn audit_words(report: &Report) -> [u32; AUDIT_ANSWER] {
@@ -141,6 +146,12 @@ pub fn library() -> Option<Interface> {
             item_number: usize,
             index: *mut u32, index_len: usize, ballots: *mut u32, ballots_len: usize,
             list: *mut u32, list_len: usize, answer: *mut u32, answer_len: usize) -> bool;
+        #[cfg(has_receipts)]
+        fn tirfolma_receipts(
+            board: *const u32, board_len: usize, verdicts: *const u32, verdicts_len: usize,
+            roll: *const u32, roll_len: usize, receipts: *const u32, receipts_len: usize,
+            index: *mut u32, index_len: usize, ballots: *mut u32, ballots_len: usize,
+            answers: *mut u32, answers_len: usize, answer: *mut u32, answer_len: usize) -> bool;
     }
     #[cfg(has_compare)]
     let compare: Option<CompareEntry> = Some(tirfolma_compare);
@@ -150,7 +161,11 @@ pub fn library() -> Option<Interface> {
     let ancestry: Option<AncestryEntry> = Some(tirfolma_ancestry);
     #[cfg(not(has_ancestry))]
     let ancestry: Option<AncestryEntry> = None;
-    Some(Interface { audit: tirfolma_audit, compare, ancestry })
+    #[cfg(has_receipts)]
+    let receipts: Option<ReceiptsEntry> = Some(tirfolma_receipts);
+    #[cfg(not(has_receipts))]
+    let receipts: Option<ReceiptsEntry> = None;
+    Some(Interface { audit: tirfolma_audit, compare, ancestry, receipts })
 }
 
 #[cfg(not(feature = "library"))]

@@ -2,12 +2,13 @@
 //! is needed to hold the auditor against it: boards made from a seed, sound and faulty, and
 //! a comparison word by word over the C interface.
 //!
-//! The rules: `sha256`, `sha512`, `curves`, `format`, `sets`, `audit`, `compare`, `ancestry`, `program`.
-//! The boards: `random`, `plan`, `roll`, `sound`, `crowded`, `faults`, `damage`, `collisions`.
-//! The checks: `interface`, `header`, `stand_in`, `told`, `closed`, `opened`, `enrolled`, `contests`, `zeros`, `reached`, `hidden`,
-//! `calls`, `checks`, `stored`, `comparisons`.
+//! The rules: `sha256`, `sha512`, `curves`, `format`, `sets`, `audit`, `compare`, `ancestry`, `receipts`, `program`.
+//! The boards: `random`, `plan`, `roll`, `sound`, `crowded`, `faults`, `damage`, `collisions`; receipts for them: `presented`.
+//! The checks: `interface`, `header`, `stand_in`, `told`, `closed`, `opened`, `enrolled`, `contests`, `zeros`, `answered`,
+//! `reached`, `hidden`, `cuts`, `calls`, `checks`, `stored`, `comparisons`, `receipt_files`.
 
 pub mod ancestry;
+pub mod answered;
 pub mod audit;
 pub mod calls;
 pub mod checks;
@@ -18,6 +19,7 @@ pub mod comparisons;
 pub mod contests;
 pub mod crowded;
 pub mod curves;
+pub mod cuts;
 pub mod damage;
 pub mod enrolled;
 pub mod faults;
@@ -27,9 +29,12 @@ pub mod hidden;
 pub mod interface;
 pub mod opened;
 pub mod plan;
+pub mod presented;
 pub mod program;
 pub mod random;
 pub mod reached;
+pub mod receipt_files;
+pub mod receipts;
 pub mod roll;
 pub mod sets;
 pub mod sha256;

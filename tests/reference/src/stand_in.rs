@@ -1,6 +1,6 @@
 //! The reference behind the auditor's C interface, to try the checks with: they must pass it, and must
 //! find each of the mistakes that it can be told to make. Those about the roll are in `rolls`, those about the
-//! widths of contest sets in `widths`, those about curves in `curves`.
+//! widths of contest sets in `widths`, those about curves in `curves`, those about receipts in `receipts`.
 
 use crate::ancestry::ancestry_with;
 use crate::audit::{audit_with, is_good_roll, is_spoiled, Board, History, Item, Opening, Rules, RULES};
@@ -11,6 +11,7 @@ use std::slice::{from_raw_parts, from_raw_parts_mut};
 use std::sync::Mutex;
 
 mod curves;
+pub mod receipts;
 mod rolls;
 mod widths;
 
@@ -25,7 +26,12 @@ pub const ANSWER_NEED_BEFORE: usize = 14;
 pub const INDEX_NEED_BEFORE: usize = 8_192;
 
 pub fn stand_in() -> Interface {
-    Interface { audit: stand_in_audit, compare: Some(stand_in_compare), ancestry: Some(stand_in_ancestry) }
+    Interface {
+        audit: stand_in_audit,
+        compare: Some(stand_in_compare),
+        ancestry: Some(stand_in_ancestry),
+        receipts: Some(stand_in_receipts),
+    }
 }
 
 /// What a mistake is about: which boards and which lengths of tables show it.
@@ -65,6 +71,12 @@ pub enum About {
     Answer,
     /// A comparison of two boards with different layouts.
     TwoLayouts,
+    /// The answers to receipts of an accepted board.
+    Answers,
+    /// The tests of receipts and of the buffer of their answers, their order, and what a refusal leaves.
+    Receipts,
+    /// Which of several casts with one address and one signature is answered.
+    FirstCast,
 }
 
 /// Makes the mistakes of a list: each has a name, what it is about, and what is wrong.
@@ -209,6 +221,64 @@ mistakes! {
     LayoutOfKept, TwoLayouts, "the later board is read with the kept board's layout";
     ApartBeforeAudit, TwoLayouts, "boards on two curves are apart though the later one is refused";
     ApartBeforeNumber, TwoLayouts, "boards on two curves are apart before 19";
+    SpoilAnswered, Answers, "a receipt of a spoil is answered";
+    MainAnswered, Answers, "a receipt of any main item is answered";
+    HiddenAnswered, Answers, "a receipt of a hidden item is answered";
+    AddressAlone, Answers, "a receipt's signature is not compared";
+    SignatureAlone, Answers, "a receipt's address is not compared";
+    AddressBefore, Answers, "a receipt has its address before its signature";
+    AcrossCasts, Answers, "a receipt's signature may be that of another cast";
+    EightOfAddress, Answers, "the first eight words of a receipt's address alone are compared";
+    SixteenOfSignature, Answers, "the first sixteen words of a receipt's signature alone are compared";
+    LastOfAddress, Answers, "the last word of a receipt's address is not compared";
+    LastOfSignature, Answers, "the last word of a receipt's signature is not compared";
+    FirstOfSignature, Answers, "the first word of a receipt's signature is not compared";
+    ItemNumber, Answers, "the answer is the cast's item number";
+    MainsBefore, Answers, "the answer is the number of main items before the cast";
+    BallotNumber, Answers, "the answer is the main number of the cast's ballot";
+    CastNumber, Answers, "the answer is the cast's number among the casts";
+    CountedAlone, Answers, "a cast that was replaced is not found";
+    LastOfVoter, Answers, "the answer is the last cast of the same voter";
+    LastMainUnseen, Answers, "a cast that is the last main item is not found";
+    OneReceiptEach, Answers, "the second of two equal receipts is not answered";
+    FirstOfAddress, Answers, "of several receipts with one address the first alone is compared";
+    ZeroForNone, Answers, "the answer is 0 where there is no cast";
+    LastReceipt, Answers, "the last receipt is not answered";
+    To256, Answers, "receipts past the 256th are not answered";
+    AnswersTurned, Answers, "the answers stand in the order from the last receipt to the first";
+    FoundFirst, Answers, "the receipts that have a cast are answered first";
+    RestUnwritten, Answers, "the words behind the answers stay as they were";
+    RestTo512, Answers, "zeros stand behind the answers up to the 512th word alone";
+    RestAsNone, Answers, "the words behind the answers are as for no cast";
+    AnswersZeroed, Receipts, "the answers are zeros where the board is refused";
+    AnswersUnderway, Receipts, "the answers up to the item that is refused stay";
+    FoundUnderway, Receipts, "the answers that are found before the item that is refused stay";
+    Refuses512, Receipts, "512 receipts are refused";
+    Takes513, Receipts, "513 receipts are taken";
+    ManyTaken, Receipts, "any number of receipts is taken";
+    WidthOf24, Receipts, "22 goes by receipts of 24 words on every curve";
+    OversizeOf24, Receipts, "22 goes by receipts of 24 words where the board has too many words";
+    RefusedOf24, Receipts, "22 goes by receipts of 24 words where the board is refused";
+    WidthByUnknown, Receipts, "22 goes by the curve of a traits word that is not known";
+    MostOf24, Receipts, "more words than 512 receipts of secp256r1 are refused on every curve";
+    MostOf49, Receipts, "as many words as 512 receipts of secp521r1 are taken on every curve";
+    PartTaken, Receipts, "the words behind the last whole receipt are left aside";
+    NoneRefused, Receipts, "no receipts are refused";
+    BadAfterAudit, Receipts, "22 comes after the audit";
+    BadAfterLimit, Receipts, "22 comes after the word limit";
+    BadAfterTables, Receipts, "22 comes after the tables' 2";
+    BadClears, Receipts, "22 leaves the tables all zero";
+    BadHasItems, Receipts, "22 gives the number of receipts as items";
+    ShortBeforeBad, Receipts, "2 comes before 22";
+    ShortAfterLimit, Receipts, "the answers' 2 comes after the word limit";
+    ShortAfterAudit, Receipts, "the answers' 2 comes after the audit";
+    ShortClears, Receipts, "the answers' 2 leaves the tables all zero";
+    OneLessTaken, Receipts, "a buffer with one word less than there are receipts is taken";
+    SameRefused, Receipts, "a buffer with just a word for each receipt is refused";
+    BufferOf512, Receipts, "a buffer of fewer than 512 words is refused";
+    EmptyRefused, Receipts, "a buffer without words is refused for no receipts";
+    BehindAnswers, Receipts, "a word behind the answers is written";
+    LastCast, FirstCast, "the last of several casts is answered";
 }
 
 /// The mistake that the stand-in makes.
@@ -541,4 +611,46 @@ unsafe extern "C" fn stand_in_ancestry(
     });
     let tables = [(list, list_len), (ballots, ballots_len)];
     finish(answer, answer_len, &ancestry_words(&given), tables)
+}
+
+#[rustfmt::skip]
+unsafe extern "C" fn stand_in_receipts(
+    board: *const u32, board_len: usize, verdicts: *const u32, verdicts_len: usize,
+    roll: *const u32, roll_len: usize, asked: *const u32, asked_len: usize,
+    index: *mut u32, index_len: usize, ballots: *mut u32, ballots_len: usize,
+    answers: *mut u32, answers_len: usize, answer: *mut u32, answer_len: usize,
+) -> bool {
+    if answer_len < AUDIT_ANSWER && made() == Some(Mistake::AnswerOf14) && answer_len >= ANSWER_NEED_BEFORE {
+        let mut longer = [0; AUDIT_ANSWER];
+        let given = stand_in_receipts(
+            board, board_len, verdicts, verdicts_len, roll, roll_len, asked, asked_len, index, index_len,
+            ballots, ballots_len, answers, answers_len, longer.as_mut_ptr(), AUDIT_ANSWER);
+        from_raw_parts_mut(answer, answer_len)[..ANSWER_NEED_BEFORE].copy_from_slice(&longer[..ANSWER_NEED_BEFORE]);
+        return given;
+    }
+    if answer_len < AUDIT_ANSWER {
+        return too_short(answer, answer_len);
+    }
+    let board = Board {
+        words: from_raw_parts(board, board_len),
+        verdicts: from_raw_parts(verdicts, verdicts_len),
+        roll: rolls::taken(roll, roll_len),
+    };
+    let tables =
+        Tables { index: from_raw_parts_mut(index, index_len), ballots: from_raw_parts_mut(ballots, ballots_len) };
+    let (asked, written) = (from_raw_parts(asked, asked_len), from_raw_parts_mut(answers, answers_len));
+    let report = with_tables(board, tables, |Tables { index, ballots }| {
+        let tables = Tables { index: &mut *index, ballots };
+        let mut report = receipts::answered(rules(), board, asked, tables, written);
+        if report.number == 0 {
+            close_wrongly(board, index, Of::OneBoard);
+        }
+        report.number = in_wrong_order(board, report.number, report.items);
+        report
+    });
+    if made() == Some(Mistake::BehindAnswers) {
+        *answers.add(answers_len) ^= 1;
+    }
+    let words = curves::answer_with_end(board, audit_words(&report), from_raw_parts(answer, answer_len));
+    finish(answer, answer_len, &words, [(index, index_len), (ballots, ballots_len)])
 }

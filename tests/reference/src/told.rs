@@ -1,5 +1,6 @@
 //! What holds of an accepted board's tables, whoever filled them, told from the words of the board and of its
-//! roll alone: nothing of `audit` is used. The properties are in `closed`, `opened`, `enrolled`, `contests` and `zeros`.
+//! roll alone: nothing of `audit` is used. The properties are in `closed`, `opened`, `enrolled`, `contests` and `zeros`; those of
+//! answers to receipts in `answered`.
 
 use crate::closed::*;
 use crate::contests::*;
@@ -33,7 +34,7 @@ pub struct Fields {
 
 impl Fields {
     /// By the traits word of an accepted board.
-    fn of(words: &[u32]) -> Fields {
+    pub fn of(words: &[u32]) -> Fields {
         let traits = if words[0] == HEAD_OF_TRAITS { words[18] } else { 0 };
         let set = if traits % 2 == 1 { 8 } else { 1 };
         let (address, signature, commitment, commitment_unit, cryptogram) = match traits / 2 {
@@ -45,7 +46,7 @@ impl Fields {
     }
 
     /// The words of an item with so many content words: head, content, parent, previous, time, signature, address.
-    fn length(&self, n: usize) -> usize {
+    pub fn length(&self, n: usize) -> usize {
         1 + n + 2 * self.address + 2 + self.signature + self.address
     }
 }

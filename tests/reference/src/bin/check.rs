@@ -1,27 +1,34 @@
 //! Runs the checks: of the reference by itself, and of the auditor's library where it is linked.
 //!
-//!   check [--boards FOLDER]... [--comparisons FOLDER] [--header FILE] [--program FILE] [--cases N] [--seed N]
-//!         [--dump FOLDER]
+//!   check [--boards FOLDER]... [--comparisons FOLDER] [--receipts FOLDER] [--header FILE] [--program FILE] [--cases N]
+//!         [--seed N] [--dump FOLDER]
 //!   check --only GROUP SEED     one case again, as a failure names it
 //!   check --all-entries ..      a library that is not linked, or lacks an entry, is a failure
 //!   check --stand-in ..         the reference in the library's place, to try the harness
 
+use reference::answered::OF_ANSWERS;
 use reference::audit::Board;
 use reference::calls::{Tally, APART, COLLISION, SAME, SHORT_ANSWER};
 use reference::checks::*;
 use reference::collisions;
 use reference::comparisons::check_comparisons;
 use reference::crowded::{all_contests, crowded};
+use reference::cuts::{self, check_cuts};
 use reference::faults::bad_roll;
-use reference::format::{Curve, Layout, Width, CURVES, LAYOUTS};
+use reference::format::{code, Curve, Layout, Width, CAST, CURVES, LAYOUTS, MAX_WORDS};
 use reference::header::{check_header, check_header_mistakes};
 use reference::hidden::{bared, check_bared, check_hidden_tracks, Bared};
 use reference::interface::{library, Interface};
+use reference::presented::Presented;
 use reference::program::{bytes, program, PROGRAM_WORDS};
 use reference::random::Random;
-use reference::reached::{BLANK, CURVES_WANTED, ON_SECP256R1, ROLLS_WANTED, SETS_WANTED, WANTED};
+use reference::reached::{Asked, BLANK, CURVES_WANTED, OF_UNKNOWN_TRAITS, ON_SECP256R1};
+use reference::reached::{RECEIPTS_WANTED, ROLLS_WANTED, SETS_WANTED, WANTED};
+use reference::receipt_files::check_receipt_files;
+use reference::receipts::receipts_with;
 use reference::roll::{full_around, voters_of};
 use reference::sound::{Shape, Traits};
+use reference::stand_in::receipts::answered;
 use reference::stand_in::{make_mistake, stand_in, About, Mistake, MISTAKES};
 use reference::stored::check_folder;
 use reference::told::PROPERTIES;
@@ -37,6 +44,7 @@ use std::time::Instant;
 struct Options {
     boards: Vec<PathBuf>,
     comparisons: Option<PathBuf>,
+    receipts: Option<PathBuf>,
     header: Option<PathBuf>,
     program: Option<PathBuf>,
     cases: u64,
@@ -51,6 +59,7 @@ fn options() -> Options {
     let mut o = Options {
         boards: Vec::new(),
         comparisons: None,
+        receipts: None,
         header: None,
         program: None,
         cases: 36_000,
@@ -67,6 +76,7 @@ fn options() -> Options {
         match arg.as_str() {
             "--boards" => o.boards.push(PathBuf::from(value())),
             "--comparisons" => o.comparisons = Some(PathBuf::from(value())),
+            "--receipts" => o.receipts = Some(PathBuf::from(value())),
             "--header" => o.header = Some(PathBuf::from(value())),
             "--program" => o.program = Some(PathBuf::from(value())),
             "--cases" => o.cases = number(value()),
@@ -86,8 +96,8 @@ fn options() -> Options {
 
 fn usage() -> ! {
     eprintln!(
-        "usage: check [--boards FOLDER]... [--comparisons FOLDER] [--header FILE] [--program FILE] [--cases N] [--seed N] \
-         [--dump FOLDER]"
+        "usage: check [--boards FOLDER]... [--comparisons FOLDER] [--receipts FOLDER] [--header FILE] [--program FILE] \
+         [--cases N] [--seed N] [--dump FOLDER]"
     );
     eprintln!("       check --only GROUP SEED");
     exit(2);
@@ -103,26 +113,32 @@ fn main() {
     header(&options);
     let tables = stored_boards(&options);
     stored_comparisons(&options);
+    stored_receipts(&options);
     collision_boards();
     hidden_tracks();
     let bared = refused_mains();
+    let cut = cut_boards();
     mistakes_are_found();
     if tables > 0 {
         stored_boards_find(&options);
     }
     stored_comparisons_find(&options);
+    stored_receipts_find(&options);
     bared_boards_find(&bared);
+    cut_boards_find(&cut);
+    collisions_find();
     let with = if options.stand_in { Some(stand_in()) } else { library() };
     if options.stand_in {
         println!("library    STAND-IN: the reference is held against itself");
     } else if with.is_none() {
         println!("library    NOT LINKED: the reference is checked by itself only");
     }
-    let whole = with.is_some_and(|with| with.compare.is_some() && with.ancestry.is_some());
+    let whole = with.is_some_and(|with| with.compare.is_some() && with.ancestry.is_some() && with.receipts.is_some());
     if options.all_entries && !whole {
         fail("the library is not linked, or lacks an entry");
     }
     rolls_of_each_length(with);
+    receipts_in_each_number(with);
     cases(&options, with);
     match &options.program {
         Some(path) => programs(&options, path),
@@ -186,14 +202,29 @@ fn stored_comparisons(options: &Options) {
     }
 }
 
+fn stored_receipts(options: &Options) {
+    let Some(folder) = &options.receipts else { return };
+    match check_receipt_files(folder, library()) {
+        Ok(count) => println!("stored     {count} sets of receipts are answered as expected ({})", folder.display()),
+        Err(message) => fail(&message),
+    }
+}
+
+/// So many boards with casts of one address.
+const SECOND_CASTS: u64 = 100;
+
 fn collision_boards() {
     let mut seen = collisions::Seen::default();
+    for seed in 0..SECOND_CASTS {
+        collisions::check_receipts(seed, receipts_with, &mut seen).unwrap_or_else(|message| fail(&message));
+    }
     for seed in 0..1_500 {
         for check in [collisions::check, collisions::check_across, collisions::check_curves] {
             check(seed, &mut seen).unwrap_or_else(|message| fail(&message));
         }
     }
     let few = seen.across < 300 || seen.same < 50 || seen.collision < 500 || seen.uneven < 100 || seen.apart < 500;
+    let few = few || seen.second_casts.iter().any(|&times| times < 20);
     if few || seen.on_curve.iter().any(|&times| times < 100) || seen.curves_apart < 500 {
         fail(&format!("too few collisions were made: {seen:?}"));
     }
@@ -206,6 +237,10 @@ fn collision_boards() {
     println!(
         "           {} pairs of boards on two curves are apart, though their addresses are the same but for zeros",
         seen.curves_apart
+    );
+    let [a, b, c] = seen.second_casts;
+    println!(
+        "           {a} + {b} + {c} receipts of a second cast with one address and signature: the first is answered"
     );
 }
 
@@ -246,6 +281,40 @@ fn refused_mains() -> Vec<Bared> {
     boards
 }
 
+/// Holds the reference, and the library where it has the entry, to the cuts of some boards with a cast that a later one
+/// replaces, of each curve. Gives the boards.
+fn cut_boards() -> Vec<Case> {
+    let makers = Makers::default();
+    let (mut boards, mut on_curve) = (Vec::new(), [0; CURVES.len()]);
+    for seed in 0.. {
+        let case = case(&makers, Group::Sound, seed);
+        let Known::Sound(expected, places, _) = &case.known else { panic!("a sound board") };
+        let casts = places.iter().filter(|&&place| code(case.words[place]) == CAST).count();
+        let times = &mut on_curve[Layout::of(&case.words).curve as usize];
+        if casts > expected.ballots.len() && *times < 4 {
+            *times += 1;
+            boards.push(case);
+        }
+        if on_curve == [4; CURVES.len()] {
+            break;
+        }
+    }
+    for (side, with) in [("reference", Some(stand_in())), ("library", library())] {
+        let Some(with) = with.filter(|with| with.receipts.is_some()) else { continue };
+        let mut seen = cuts::Seen::default();
+        for case in &boards {
+            let held = check_cuts(&with, case, side == "library", &mut seen);
+            held.unwrap_or_else(|message| fail(&format!("{side}, cuts of {}: {message}", case.name)));
+        }
+        let cuts::Seen { cuts, found, kept } = seen;
+        let boards = boards.len();
+        println!(
+            "cuts       {cuts} of {boards} boards, {side}: {found} receipts are answered, and as before {kept} times"
+        );
+    }
+    boards
+}
+
 /// The boards that the checks are tried with.
 struct Tried {
     sound: Vec<Case>,
@@ -260,6 +329,7 @@ struct Tried {
     curves: Vec<Case>,
     zeros: Vec<Case>,
     two_layouts: Vec<Case>,
+    receipts: Vec<Case>,
 }
 
 impl Default for Tried {
@@ -276,7 +346,14 @@ impl Default for Tried {
         let all_contests = cases_of(&makers, "13/all contests,", &[0, 1, 2]);
         let differ = |case: &Case| Layout::of(&case.words) != Layout::of(&case.other.words);
         let faulty = (0..2_000).map(|seed| case(&makers, Group::Faults, seed));
+        let oversize = sound[..24].iter().map(|case| {
+            let mut case = Case { known: Known::Refused(1, 0), ..case.clone() };
+            case.words.resize(MAX_WORDS + 1, 0);
+            case
+        });
+        let at_the_end = cases_of(&makers, "18/", &[0, 1, 2, 3, 4, 5]);
         Tried {
+            receipts: [&sound[..200], &traits, &at_the_end, &oversize.collect::<Vec<Case>>()].concat(),
             full: vec![case(&makers, Group::Full, 0)],
             openings: of("11/opening"),
             casts: of("12/cast after spoil and opening"),
@@ -295,10 +372,10 @@ impl Default for Tried {
 
 impl Tried {
     /// The boards and checks that are to find a mistake; without one, all of them.
-    fn by(&self, mistake: Option<Mistake>) -> Vec<(&[Case], [Check; 3])> {
+    fn by(&self, mistake: Option<Mistake>) -> Vec<(&[Case], [Check; ENTRIES])> {
         let Some(mistake) = mistake else {
             let others = [&self.openings, &self.casts, &self.bad_rolls, &self.unenrolled, &self.ordered];
-            let sets = [&self.widths, &self.contests, &self.curves, &self.zeros, &self.two_layouts];
+            let sets = [&self.widths, &self.contests, &self.curves, &self.zeros, &self.two_layouts, &self.receipts];
             let mut all: Vec<(&[Case], _)> = vec![(&self.full, FULL_LENGTHS), (&self.sound, TOLD)];
             all.extend([&self.sound].into_iter().chain(others).chain(sets).map(|cases| (&cases[..], ANY_LENGTH)));
             return all;
@@ -320,6 +397,10 @@ impl Tried {
             About::Zeros => also_told(&self.zeros[..]),
             About::End => also_told(&self.sound[..]),
             About::TwoLayouts => alone(&self.two_layouts[..]),
+            About::Answers => vec![(&self.sound, only_receipts(ANY_LENGTH)), (&self.sound, only_receipts(TOLD))],
+            About::Receipts => vec![(&self.receipts, only_receipts(ANY_LENGTH))],
+            // It takes a collision.
+            About::FirstCast => Vec::new(),
             About::OtherRoll => {
                 [&self.sound, &self.bad_rolls, &self.unenrolled].map(|cases| (&cases[..], ANY_LENGTH)).to_vec()
             }
@@ -327,17 +408,25 @@ impl Tried {
     }
 }
 
+/// The check of receipts alone: no other entry can make a mistake about them.
+fn only_receipts(checks: [Check; ENTRIES]) -> [Check; ENTRIES] {
+    let none: Check = |_, _, _, _| Ok(());
+    [none, none, none, checks[3]]
+}
+
 /// The checks themselves are tried on a stand-in that makes a mistake. Those about lengths are to be
 /// found with a full board, by the lengths that are always tried with it; those about who closed a
-/// ballot, and openings, sessions and contests that pass, also without the reference.
+/// ballot, and openings, sessions and contests that pass, and answers to receipts also without the reference.
 fn mistakes_are_found() {
     let boards = Tried::default();
     let mut broken = [0; PROPERTIES.len()];
+    let mut broken_answers = [0; OF_ANSWERS.len()];
     for mistake in [None].into_iter().chain(MISTAKES.iter().copied().map(Some)) {
         make_mistake(mistake);
         let tried = boards.by(mistake);
-        let wanted = mistake.map_or([false; 3], entries);
-        let found: Vec<[usize; 3]> = tried.iter().map(|&(cases, checks)| differences(cases, checks, wanted)).collect();
+        let wanted = mistake.map_or([false; ENTRIES], entries);
+        let found: Vec<[usize; ENTRIES]> =
+            tried.iter().map(|&(cases, checks)| differences(cases, checks, wanted)).collect();
         let right = found.iter().all(|times| times.map(|times| times > 0) == wanted);
         if !right {
             let what = mistake.map_or("none", Mistake::what);
@@ -346,28 +435,43 @@ fn mistakes_are_found() {
         if mistake.is_some_and(found_alone) {
             add_broken(tried[0].0, &mut broken);
         }
+        if mistake.is_some_and(|mistake| mistake.about() == About::Answers) {
+            add_broken_answers(&tried[0].0[..100], &mut broken_answers);
+        }
     }
     make_mistake(None);
-    if broken.contains(&0) {
-        fail(&format!("the mistakes break the properties of the tables {broken:?} times, one of them never"));
+    if broken.contains(&0) || broken_answers.contains(&0) {
+        fail(&format!(
+            "the mistakes break the properties of the tables {broken:?} times, those of answers {broken_answers:?} times, \
+             one of them never"
+        ));
     }
-    let everywhere = MISTAKES.iter().filter(|&&mistake| entries(mistake) == [true; 3]).count();
+    print_found();
+}
+
+fn print_found() {
+    let of = |is: &dyn Fn(Mistake) -> bool| MISTAKES.iter().filter(|&&mistake| is(mistake)).count();
+    let everywhere = of(&|mistake| entries(mistake) == [true; ENTRIES]);
+    let somewhere = of(&|mistake| entries(mistake).contains(&true));
     println!("harness    {everywhere} planted mistakes are found in each entry");
-    println!("           {} more in the one entry that can make them", MISTAKES.len() - everywhere);
-    let is_alone = |mistake: Mistake| found_alone(mistake) || mistake.about() == About::End;
-    let alone = MISTAKES.iter().filter(|&&mistake| is_alone(mistake)).count();
+    println!("           {} more in each entry that can make them", somewhere - everywhere);
+    let alone = of(&|mistake| found_alone(mistake) || matches!(mistake.about(), About::End | About::Answers));
     println!(
-        "           {alone} of them without the reference, by {} properties of the tables or by the end address",
-        PROPERTIES.len()
+        "           {alone} of them without the reference, by {} properties of the tables, {} of the answers to receipts, \
+         or by the end address",
+        PROPERTIES.len(),
+        OF_ANSWERS.len()
     );
 }
 
-/// The entries in which a mistake is to be found, of audit, compare and ancestry: all where it can be made.
-fn entries(mistake: Mistake) -> [bool; 3] {
+/// The entries in which a mistake is to be found, of audit, compare, ancestry and receipts: all where it can be made.
+fn entries(mistake: Mistake) -> [bool; ENTRIES] {
     match mistake.about() {
-        About::OtherRoll | About::TwoLayouts => [false, true, false],
-        About::End | About::Answer => [true, false, false],
-        _ => [true; 3],
+        About::OtherRoll | About::TwoLayouts => [false, true, false, false],
+        About::End | About::Answer => [true, false, false, true],
+        About::Answers | About::Receipts => [false, false, false, true],
+        About::FirstCast => [false; ENTRIES],
+        _ => [true; ENTRIES],
     }
 }
 
@@ -402,6 +506,32 @@ fn stored_comparisons_find(options: &Options) {
     find("the stored comparisons", wanted, || check_comparisons(folder, None).is_ok());
 }
 
+/// The stored receipts are to find mistakes about receipts, but for those that take a board of too many words or a table
+/// that is too short.
+fn stored_receipts_find(options: &Options) {
+    let Some(folder) = &options.receipts else { return };
+    let wanted = |mistake: Mistake| match mistake {
+        Mistake::OversizeOf24 | Mistake::BadAfterLimit | Mistake::BadAfterTables | Mistake::ShortAfterLimit => false,
+        _ => matches!(mistake.about(), About::Answers | About::Receipts),
+    };
+    find("the stored receipts", wanted, || check_receipt_files(folder, None).is_ok());
+}
+
+/// Cuts of boards are to find, the reference left aside, that an answer goes or changes as a board grows, or comes late.
+fn cut_boards_find(boards: &[Case]) {
+    let wanted =
+        |mistake: Mistake| matches!(mistake, Mistake::CountedAlone | Mistake::LastOfVoter | Mistake::LastMainUnseen);
+    let passes = || boards.iter().all(|case| check_cuts(&stand_in(), case, false, &mut cuts::Seen::default()).is_ok());
+    find("cuts of boards", wanted, passes);
+}
+
+/// Casts of one address are to find that not the first of them is answered.
+fn collisions_find() {
+    let check = |seed| collisions::check_receipts(seed, answered, &mut collisions::Seen::default());
+    let wanted = |mistake: Mistake| mistake.about() == About::FirstCast;
+    find("casts of one address", wanted, || (0..SECOND_CASTS).all(|seed| check(seed).is_ok()));
+}
+
 /// Boards with and without hidden items, too, are to find mistakes about these.
 fn bared_boards_find(boards: &[Bared]) {
     let passes = || boards.iter().all(|bared| check_bared(&stand_in(), bared).is_ok());
@@ -430,10 +560,19 @@ fn add_broken(cases: &[Case], broken: &mut [usize; PROPERTIES.len()]) {
     }
 }
 
+/// Counts the cases in which the stand-in's answers to receipts break each property.
+fn add_broken_answers(cases: &[Case], broken: &mut [usize; OF_ANSWERS.len()]) {
+    for (seed, case) in (0..).zip(cases) {
+        for (times, is_broken) in broken.iter_mut().zip(broken_by_answers(&stand_in(), case, seed)) {
+            *times += usize::from(is_broken);
+        }
+    }
+}
+
 /// Counts the cases in which the checks find something wrong with the stand-in, by entry; up to the first, where that
 /// is wanted.
-fn differences(cases: &[Case], checks: [Check; 3], wanted: [bool; 3]) -> [usize; 3] {
-    let mut found = [0; 3];
+fn differences(cases: &[Case], checks: [Check; ENTRIES], wanted: [bool; ENTRIES]) -> [usize; ENTRIES] {
+    let mut found = [0; ENTRIES];
     for (seed, case) in cases.iter().enumerate() {
         let (random, tally) = (&mut Random::new(seed as u64), &mut Tally::default());
         for (entry, check) in checks.iter().enumerate() {
@@ -464,6 +603,20 @@ struct Counts {
     audit: Tally,
     compare: Tally,
     ancestry: Tally,
+    receipts: Tally,
+    /// The calls that show each thing that is wanted of receipts, by curve.
+    asked: [[usize; CURVES.len()]; RECEIPTS_WANTED.len()],
+    /// By the refusal of the board, or 0: the calls with receipts that give it, that give 2 for the answers' buffer, and
+    /// that give 22.
+    asked_of: BTreeMap<u32, [usize; 3]>,
+}
+
+/// A case in which something differs.
+struct Failure {
+    case: Case,
+    message: String,
+    /// The receipts, if it is about these.
+    receipts: Option<Vec<u32>>,
 }
 
 /// One case: the reference against its making, then the library against the reference.
@@ -473,15 +626,20 @@ fn run_case(
     group: Group,
     seed: u64,
     counts: &mut Counts,
-) -> Result<(), (Case, String)> {
+) -> Result<(), Failure> {
     let case = case(makers, group, seed);
     let random = &mut Random::new(seed ^ 0x5eed);
-    let held = hold_reference(&case, group, counts).and_then(|()| match with {
-        Some(with) => hold_library(&with, &case, group, random, counts),
-        None => Ok(()),
+    let held = hold_reference(&case, group, counts).and_then(|number| {
+        with.map_or(Ok(()), |with| hold_library(&with, &case, group, random, counts))?;
+        Ok(number)
     });
-    if let Err(message) = held {
-        return Err((case, message));
+    let number = match held {
+        Ok(number) => number,
+        Err(message) => return Err(Failure { case, message, receipts: None }),
+    };
+    if let Err((presented, message)) = hold_receipts(with, &case, number, random, counts) {
+        let words = presented.board(&case).words.to_vec();
+        return Err(Failure { case: Case { words, ..case }, message, receipts: Some(presented.receipts) });
     }
     counts.boards += 1;
     counts.words += case.words.len();
@@ -492,8 +650,8 @@ fn run_case(
     Ok(())
 }
 
-/// Whether the reference says of a case what its making does.
-fn hold_reference(case: &Case, group: Group, counts: &mut Counts) -> Result<(), String> {
+/// Whether the reference says of a case what its making does. Gives the refusal, or 0.
+fn hold_reference(case: &Case, group: Group, counts: &mut Counts) -> Result<u32, String> {
     let (number, items) = check_known(case)?;
     *counts.by_number.entry(number).or_default() += 1;
     if group == Group::Full {
@@ -505,7 +663,7 @@ fn hold_reference(case: &Case, group: Group, counts: &mut Counts) -> Result<(), 
     add_shown(&mut counts.rolls, shown_of_roll(case, number), layout.traits() as usize);
     add_shown(&mut counts.sets, shown_of_sets(case, number, items), layout.curve as usize);
     add_shown(&mut counts.curves, shown_of_curve(case, number, items), layout.curve as usize);
-    Ok(())
+    Ok(number)
 }
 
 /// Counts what a board shows under its layout or curve.
@@ -519,7 +677,35 @@ fn add_shown<const WAYS: usize, const WANTED: usize>(
     }
 }
 
-/// Whether every entry says of a case what the reference does, and leaves the boards as they are.
+/// Whether receipts for a case are answered as the reference does, and as their making tells. Without the library's
+/// entry, the reference's own answers are held to that. Where no item is read, several sets of receipts take no time.
+/// Gives the receipts for which something differs.
+fn hold_receipts(
+    with: Option<Interface>,
+    case: &Case,
+    number: u32,
+    random: &mut Random,
+    counts: &mut Counts,
+) -> Result<(), (Presented, String)> {
+    let with = with.filter(|with| with.receipts.is_some()).unwrap_or_else(stand_in);
+    let curve = Layout::of(&case.words).curve as usize;
+    for _ in 0..if case.words.len() > MAX_WORDS { 4 } else { 1 } {
+        let presented = Presented::new(case, random);
+        let (said, short) = match check_presented(&with, case, &presented, random, &mut counts.receipts) {
+            Ok(Some(said)) => said,
+            Ok(None) => continue,
+            Err(message) => return Err((presented, message)),
+        };
+        let asked = Asked { presented: &presented, board: &case.words, audited: number, said, short };
+        add_shown(&mut counts.asked, RECEIPTS_WANTED.map(|(_, shows)| shows(&asked)), curve);
+        if let Some(way) = asked.way() {
+            counts.asked_of.entry(number).or_default()[way] += 1;
+        }
+    }
+    Ok(())
+}
+
+/// Whether every other entry says of a case what the reference does, and leaves the boards as they are.
 fn hold_library(
     with: &Interface,
     case: &Case,
@@ -528,9 +714,12 @@ fn hold_library(
     counts: &mut Counts,
 ) -> Result<(), String> {
     let before = sum(case);
-    let tallies = [&mut counts.audit, &mut counts.compare, &mut counts.ancestry];
+    let tallies = [&mut counts.audit, &mut counts.compare, &mut counts.ancestry, &mut counts.receipts];
     for (entry, tally) in tallies.into_iter().enumerate() {
-        ANY_LENGTH[entry](with, case, random, tally)?;
+        // Receipts have a check of their own.
+        if entry < 3 {
+            ANY_LENGTH[entry](with, case, random, tally)?;
+        }
         // A roll's refusals with all lengths of tables, too: 2 comes before 20, and 20 clears them.
         let bad_roll = matches!(case.known, Known::Refused(20, _)) && case.words.len() < 2_000;
         if matches!(group, Group::Full | Group::Ballots) || bad_roll {
@@ -568,6 +757,15 @@ fn rolls_of_each_length(with: Option<Interface>) {
     println!("rolls      {} lengths, from 0 words on; by refusal  {}", cases.len(), numbers.join(" "));
 }
 
+/// A board on each curve with receipts in every number: the reference, or the library where it has the entry.
+fn receipts_in_each_number(with: Option<Interface>) {
+    let with = with.filter(|with| with.receipts.is_some()).unwrap_or_else(stand_in);
+    match receipts_of_each_length(&with) {
+        Ok((lengths, tally)) => println!("receipts   {lengths} lengths, from 0 words on; by refusal  {}", told(&tally)),
+        Err(message) => fail(&message),
+    }
+}
+
 /// How many cases of each group make up a run of `cases`.
 fn shares(cases: u64) -> Vec<(Group, u64)> {
     let part = |percent: u64| cases * percent / 100;
@@ -589,7 +787,7 @@ fn cases(options: &Options, with: Option<Interface>) {
     let total = run_cases(options, with);
     print_reference(options, &total, start.elapsed().as_secs_f64());
     if options.cases >= 5_000 && !all_made(&total) {
-        fail("some refusal, reason, full board, sort of ballot, of roll or of set was not made, or too rarely");
+        fail("some refusal, reason, full board, sort of ballot, of roll, of set or of receipt was not made, or too rarely");
     }
     if let Some(with) = with {
         print_library(&with, &total);
@@ -624,7 +822,7 @@ fn run_cases(options: &Options, with: Option<Interface>) -> Counts {
     for part in parts {
         match part {
             Ok(counts) => merge(&mut total, counts),
-            Err((case, message)) => report(options, &case, &message),
+            Err(failure) => report(options, &failure),
         }
     }
     total
@@ -651,6 +849,8 @@ fn print_reference(options: &Options, total: &Counts, seconds: f64) {
     print_shown("rolls", ROLLS_WANTED.iter().map(|(what, _)| *what).zip(&total.rolls));
     print_shown("sets", SETS_WANTED.iter().map(|(what, _)| *what).zip(&total.sets));
     print_shown("curves", CURVES_WANTED.iter().map(|(what, _)| *what).zip(&total.curves));
+    let asked = RECEIPTS_WANTED.iter().map(|(what, _)| *what).zip(&total.asked);
+    print_times("receipts", "calls", asked);
 }
 
 /// How many ways there are to be refused, or to pass, each counted in every layout that has a place for it.
@@ -660,17 +860,32 @@ fn reasons() -> usize {
 
 /// How many boards of each layout, or on each curve, show each thing that is wanted.
 fn print_shown<'a, const WAYS: usize>(title: &str, shown: impl Iterator<Item = (&'static str, &'a [usize; WAYS])>) {
+    print_times(title, "boards", shown);
+}
+
+fn print_times<'a, const WAYS: usize>(
+    title: &str,
+    of: &str,
+    shown: impl Iterator<Item = (&'static str, &'a [usize; WAYS])>,
+) {
     for (at, (what, times)) in shown.enumerate() {
         let title = if at == 0 { title } else { "" };
         let times = times.map(|times| times.to_string()).join(" + ");
-        println!("           {title:<11} {times} boards: {what}");
+        println!("           {title:<11} {times} {of}: {what}");
     }
 }
 
 /// Whether every refusal, every reason, and enough full boards, ballots and rolls of each kind were made.
 fn all_made(total: &Counts) -> bool {
     // All but 2, which takes a short table whatever the board is.
-    let refusals = [1].into_iter().chain(3..=16).chain([18, 20, 21]).all(|n| total.by_number.contains_key(&n));
+    let mut numbers = [1].into_iter().chain(3..=16).chain([18, 20, 21]);
+    let refusals = numbers.clone().all(|n| total.by_number.contains_key(&n));
+    // With receipts each of them, 2 and 22.
+    let each_way = |n: u32| total.asked_of.get(&n).is_some_and(|ways| !ways.contains(&0));
+    let asked_of = each_way(0) && numbers.all(each_way);
+    let is_plain = |what: &str, times: &[usize]| OF_UNKNOWN_TRAITS.contains(&what) && times[0] >= 5;
+    let asked = RECEIPTS_WANTED.iter().zip(&total.asked);
+    let asked = asked_of && asked.into_iter().all(|((what, _), times)| is_plain(what, times) || everywhere(times));
     let reasons = total.by_reason.len() >= reasons();
     let [filled, fewer, refused] = total.full;
     let ballots = WANTED.iter().zip(&total.shown).all(|(_, times)| everywhere(times));
@@ -678,7 +893,8 @@ fn all_made(total: &Counts) -> bool {
     let on_one = |what: &str, times: &[usize]| ON_SECP256R1.contains(&what) && times[0] >= 5;
     let sets = SETS_WANTED.iter().zip(&total.sets).all(|((what, _), times)| on_one(what, times) || everywhere(times));
     let curves = total.curves.iter().all(|times| everywhere(times));
-    refusals && reasons && ballots && rolls && sets && curves && filled >= 5 && fewer >= 5 && refused >= 10
+    let full = filled >= 5 && fewer >= 5 && refused >= 10;
+    refusals && reasons && ballots && rolls && sets && curves && asked && full
 }
 
 /// Whether there are boards of each layout, or on each curve, and some together.
@@ -692,6 +908,7 @@ fn print_library(with: &Interface, total: &Counts) {
         ("audit", true, &total.audit),
         ("compare", with.compare.is_some(), &total.compare),
         ("ancestry", with.ancestry.is_some(), &total.ancestry),
+        ("receipts", with.receipts.is_some(), &total.receipts),
     ];
     for (name, linked, tally) in entries {
         if linked {
@@ -720,10 +937,10 @@ fn merge(total: &mut Counts, part: Counts) {
     total.boards += part.boards;
     total.words += part.words;
     let by_layout = total.shown.iter_mut().chain(&mut total.rolls).flatten();
-    let by_curve = total.sets.iter_mut().chain(&mut total.curves).flatten();
+    let by_curve = total.sets.iter_mut().chain(&mut total.curves).chain(&mut total.asked).flatten();
     let totals = total.full.iter_mut().chain(by_layout).chain(by_curve);
     let part_by_layout = part.shown.into_iter().chain(part.rolls).flatten();
-    let part_by_curve = part.sets.into_iter().chain(part.curves).flatten();
+    let part_by_curve = part.sets.into_iter().chain(part.curves).chain(part.asked).flatten();
     for (a, b) in totals.zip(part.full.into_iter().chain(part_by_layout).chain(part_by_curve)) {
         *a += b;
     }
@@ -733,9 +950,16 @@ fn merge(total: &mut Counts, part: Counts) {
     for (reason, count) in part.by_reason {
         *total.by_reason.entry(reason).or_default() += count;
     }
-    for (to, from) in
-        [(&mut total.audit, part.audit), (&mut total.compare, part.compare), (&mut total.ancestry, part.ancestry)]
-    {
+    for (number, ways) in part.asked_of {
+        let total = total.asked_of.entry(number).or_default();
+        total.iter_mut().zip(ways).for_each(|(a, b)| *a += b);
+    }
+    for (to, from) in [
+        (&mut total.audit, part.audit),
+        (&mut total.compare, part.compare),
+        (&mut total.ancestry, part.ancestry),
+        (&mut total.receipts, part.receipts),
+    ] {
         for (a, b) in to.iter_mut().zip(from) {
             *a += b;
         }
@@ -743,9 +967,10 @@ fn merge(total: &mut Counts, part: Counts) {
 }
 
 /// The first difference: the case by name, and its words in files.
-fn report(options: &Options, case: &Case, message: &str) -> ! {
+fn report(options: &Options, Failure { case, message, receipts }: &Failure) -> ! {
     println!("FAILED     {}: {message}", case.name);
     dump(&options.dump, case.board());
+    let _ = fs::write(options.dump.join("receipts.words"), bytes(receipts.as_deref().unwrap_or(&[])));
     let other = options.dump.join("other");
     dump(&other, case.other.board());
     println!("           the board is in {}, the one compared with in {}", options.dump.display(), other.display());
@@ -774,7 +999,7 @@ fn only(options: &Options, group: Group, seed: u64) {
     let mut counts = Counts::default();
     match run_case(&makers, library(), group, seed, &mut counts) {
         Ok(()) => println!("{} agrees", case(&makers, group, seed).name),
-        Err((case, message)) => report(options, &case, &message),
+        Err(failure) => report(options, &failure),
     }
 }
 

@@ -127,7 +127,7 @@ fn passes_curve_3(traits: u32) -> bool {
 }
 
 /// The layout by the traits that are known, whatever others there are.
-fn told_by_unknown(board: &[u32]) -> Layout {
+pub fn told_by_unknown(board: &[u32]) -> Layout {
     let known = traits(board).map(|traits| traits & (WIDE_SETS | CURVE_BITS));
     known.and_then(Layout::known).unwrap_or(Layout::PLAIN)
 }

@@ -18,8 +18,8 @@ pub fn layout_rules() -> LayoutRules {
         }
         Some(Mistake::NarrowSets) => rules.of = |board| Layout { sets: Width::Narrow, ..Layout::of(board) },
         Some(Mistake::WideByHead) => {
-            rules.of = |board| match board[0] {
-                TRAITS_HEAD => Layout { sets: Width::Wide, ..Layout::of(board) },
+            rules.of = |board| match board.first() {
+                Some(&TRAITS_HEAD) => Layout { sets: Width::Wide, ..Layout::of(board) },
                 _ => Layout::of(board),
             };
         }
