@@ -11,6 +11,7 @@ mod links;
 mod only;
 mod phases;
 mod reasons;
+mod receipts;
 pub(crate) mod refused;
 mod roll;
 mod sets;
@@ -19,17 +20,17 @@ mod text;
 pub(crate) mod widths;
 
 use crate::board::{items, Head, Item};
-use crate::files::Files;
+use crate::files::{Files, Words};
 use crate::library::Refusal;
 use refused::Refused;
 
 /// Stands below explanations.
 pub const NOTE: &str =
-    "(Explanations are told from the words and tables after the audit; no answer depends on them.)\n";
+    "(Explanations are told from the words and, after an audit, its tables; no answer depends on them.)\n";
 
 /// The numbers of the refusals, and what each is about.
 pub fn refusals() -> impl Iterator<Item = (u32, &'static str)> {
-    (1..=21).filter_map(|number| Some((number, reasons::of(number)?.wrong)))
+    (1..=22).filter_map(|number| Some((number, reasons::of(number)?.wrong)))
 }
 
 /// What is wrong in a few words, whatever the board.
@@ -47,13 +48,19 @@ pub fn explain(files: &Files, refusal: Refusal) -> String {
     detail(files, refusal).unwrap_or_else(|| general(files, refusal))
 }
 
+/// The same of receipts that were asked for beside a board: of their file, under its name, where that is what is wrong.
+pub fn explain_receipts(files: &Files, name: &str, receipts: &Words, refusal: Refusal) -> String {
+    let said = receipts::bad(files, name, receipts, refusal);
+    said.map_or_else(|| explain(files, refusal), |said| said + ".")
+}
+
 /// What the words show; none where they don't.
 pub fn detail(files: &Files, refusal: Refusal) -> Option<String> {
     let Refusal { number, items } = refusal;
     let said = match number {
         1 => sizes::too_large(files, items),
         2 => Some(
-            "A table that the calling program gave is too short: this is a fault of the program, not of the board"
+            "A buffer that the calling program gave is too short: this is a fault of the program, not of the board"
                 .into(),
         ),
         3 => sizes::empty(files),
@@ -94,11 +101,12 @@ fn general(files: &Files, refusal: Refusal) -> String {
     let Some(reason) = reasons::of(refusal.number) else {
         return format!("No refusal has the number {}.", refusal.number);
     };
-    let (wrong, look) = (reason.wrong, reason.look);
-    match reason.of_item {
-        true => format!("{} is refused: {wrong}. Look at {look}.", item_name(files, refusal.items)),
-        false => format!("The board is refused: {wrong}. Look at {look}."),
-    }
+    let what = match refusal.number {
+        _ if reason.of_item => item_name(files, refusal.items),
+        22 => "The file of receipts".to_string(),
+        _ => "The board".to_string(),
+    };
+    format!("{what} is refused: {}. Look at {}.", reason.wrong, reason.look)
 }
 
 /// The place behind so many items, if there are so many.

@@ -1,4 +1,4 @@
-//! The three files of a board's folder, read as words: four bytes each, high byte first.
+//! The three files of a board's folder, and a file of receipts, read as words: four bytes each, high byte first.
 
 use crate::library::header::TIRFOLMA_BOARD_WORDS;
 use crate::library::{self, Answer, Board, Refusal, Tables};
@@ -11,7 +11,7 @@ use std::path::{Path, PathBuf};
 pub const NAMES: [&str; 3] = ["board.words", "verdicts.words", "roll.words"];
 
 /// What is read of a file: one word more than a board may have. A board that has them is too large whatever follows, and no board of the
-/// library's limits has a use for as many verdicts or voters.
+/// library's limits has a use for as many verdicts or voters; nor are as many words ever the receipts that it answers at once.
 const MOST_BYTES: u64 = 4 * (TIRFOLMA_BOARD_WORDS as u64 + 1);
 
 /// Linux's flag on x86-64: to open does not wait. It changes nothing for a regular file.
@@ -43,6 +43,12 @@ impl Words {
         let whole = bytes[..bytes.len().min(MOST_BYTES as usize)].chunks_exact(4);
         let words = whole.map(|b| u32::from_be_bytes([b[0], b[1], b[2], b[3]])).collect();
         Words { words, bytes: bytes.len() as u64 }
+    }
+
+    pub fn of(path: &Path) -> Result<Words, Error> {
+        let mut words = Words::default();
+        words.read(path).map_err(|e| Error::new(path, plain(&e)))?;
+        Ok(words)
     }
 
     /// Whether the file has whole words alone.
@@ -163,10 +169,9 @@ impl Files {
         Board { words: &self.board.words, verdicts: &self.verdicts.words, roll: &self.roll.words }
     }
 
-    /// The auditing program's rule for files: a byte count that is no multiple of 4 is refused as 4 with 0 items.
+    /// The rule for files, of a board's own.
     pub fn size_refusal(&self) -> Option<Refusal> {
-        let whole = self.each().iter().all(|file| file.is_whole());
-        (!whole).then_some(Refusal { number: 4, items: 0 })
+        size_refusal(self.each())
     }
 
     /// The files' rule first, as in the auditing program; else what the library says.
@@ -176,6 +181,12 @@ impl Files {
             None => library::audit(self.words(), tables),
         }
     }
+}
+
+/// The auditing program's rule for files: a byte count that is no multiple of 4 is refused as 4 with 0 items.
+pub fn size_refusal<'a>(files: impl IntoIterator<Item = &'a Words>) -> Option<Refusal> {
+    let whole = files.into_iter().all(Words::is_whole);
+    (!whole).then_some(Refusal { number: 4, items: 0 })
 }
 
 /// An error in the system's words, without its number.

@@ -51,6 +51,13 @@ const fn curve(name: &'static str, hash: &'static str, widths: [usize; 4], commi
     Curve { name, hash, address, signature, commitment, commitment_zeros, cryptogram }
 }
 
+impl Curve {
+    /// The words of a receipt: a signature, and an address behind it.
+    pub fn receipt(&self) -> usize {
+        self.signature + self.address
+    }
+}
+
 /// By their numbers. The widths: signature, commitment, cryptogram, address.
 pub static CURVES: [Curve; 3] = [
     curve("secp256r1", "SHA-256", [16, 9, 17, 8], 24),

@@ -112,6 +112,25 @@ pub const COMMANDS: &[Command] = &[
         ],
     },
     Command {
+        name: "receipts",
+        run: crate::receipts::run,
+        operands: "DIR FILE",
+        takes: (2, 2),
+        about: "find the casts of receipts",
+        text: &[
+            "Audits the board and prints a line for each receipt in FILE: its number in the file, counted from 1, and the main number of the first cast that has its address and its signature, or 'none'. A cast that is found may not be counted: a later one of the same voter may have taken its place.",
+            "FILE has words of four bytes as a board's files have them, and a byte count that is no multiple of 4 is refused as 4 at 0, too. Each receipt is a signature and then an address, as they stand at the end of a cast, of the widths of the board's curve: 24 words on secp256r1, 36 on secp384r1, 49 on secp521r1. Other words than whole receipts, and more than 512 receipts, are refused as 22 at 0, before the board is audited. A FILE without words has no receipts, and no line is printed.",
+            "Where the board or FILE is refused it prints 'refused N at K', and says in words what is wrong, as audit --explain does: no answer depends on it.",
+        ],
+        options: &[JSON, HELP],
+        keys: &[
+            ("answer", "\"answered\" or \"refused\""),
+            ("list", "if answered: an array of objects with the keys receipt (its number in FILE) and main (the main number of its cast, or null)"),
+            ("number, passed", "if refused: the refusal, and how many items pass"),
+            ("explanation", "if refused: what is wrong, in words; no answer depends on it"),
+        ],
+    },
+    Command {
         name: "show",
         run: crate::show::run,
         operands: "DIR",
@@ -133,8 +152,8 @@ pub const COMMANDS: &[Command] = &[
 ];
 
 pub const EXIT: &[(&str, &str)] = &[
-    ("0", "Every board is accepted; for compare: same; for ancestry: listed."),
-    ("1", "A board is refused; for compare also: apart, or a collision."),
+    ("0", "Every board is accepted; for compare: same; for ancestry: listed; for receipts: each has a cast."),
+    ("1", "A board is refused; for compare also: apart, or a collision; for receipts also: one has no cast, or they are refused."),
     ("2", "Something could not be read or written, or the call was wrong; then there may also be boards that are refused."),
 ];
 
@@ -142,6 +161,7 @@ pub const EXAMPLES: &[(&str, &str)] = &[
     ("tirfolma audit boards", "Audits all folders in boards."),
     ("tirfolma audit --explain boards/0417", "Says in words what is wrong with a board."),
     ("tirfolma compare noon/0417 night/0417", "Holds the board of the night to the one that was kept at noon."),
+    ("tirfolma receipts night/0417 receipts.words", "Says which main item of the board is the cast of each receipt."),
     ("tirfolma audit --json boards | grep '\"answer\":\"refused\"'", "The refused boards, an object to a line."),
 ];
 
@@ -287,7 +307,7 @@ pub fn manual() -> String {
 
 // ---- completion ----
 
-/// For bash: commands, the options of each, folders.
+/// For bash: commands, the options of each, folders, and where a command takes a file also files.
 pub fn completion() -> String {
     let names: Vec<&str> = COMMANDS.iter().map(|command| command.name).collect();
     let mut out = String::from("# Completion of tirfolma for bash. Made by 'tirfolma --completion'.\n_tirfolma() {\n");
@@ -296,12 +316,13 @@ pub fn completion() -> String {
         "        mapfile -t COMPREPLY < <(compgen -W '{} --help --version --man --completion' -- \"$word\")\n",
         names.join(" ")
     );
-    out += "        return\n    fi\n    local options=\n    case ${COMP_WORDS[1]} in\n";
+    out += "        return\n    fi\n    local options= names=-d\n    case ${COMP_WORDS[1]} in\n";
     for command in COMMANDS {
         let flags: Vec<&str> = command.options.iter().map(|option| option.flag).collect();
-        out += &format!("    {}) options='{}' ;;\n", command.name, flags.join(" "));
+        let names = if command.operands.contains("FILE") { " names=-f" } else { "" };
+        out += &format!("    {}) options='{}'{names} ;;\n", command.name, flags.join(" "));
     }
     out += "    esac\n    if [[ $word == -* ]]; then\n        mapfile -t COMPREPLY < <(compgen -W \"$options\" -- \"$word\")\n";
-    out += "    else\n        compopt -o filenames\n        mapfile -t COMPREPLY < <(compgen -d -- \"$word\")\n    fi\n}\n";
+    out += "    else\n        compopt -o filenames\n        mapfile -t COMPREPLY < <(compgen \"$names\" -- \"$word\")\n    fi\n}\n";
     out + "complete -F _tirfolma tirfolma\n"
 }

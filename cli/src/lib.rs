@@ -1,7 +1,8 @@
 //! `tirfolma`, the command: reads a board's files, has the proved library audit them, and prints what it says.
 //!
 //! `library` has the calls, and `files` the one rule about files; what the other parts do decides nothing about a board.
-//! Reading: `args`, `folders`, `files`. The commands: `audit` (over `queue`), `compare`, `ancestry`, `show`.
+//! Reading: `args`, `folders`, `files`. The commands: `audit` (over `queue`), `compare`, `ancestry`, `receipts`,
+//! `show`.
 //! For people: `explain`, `board`, `format`, `types`, `times`, `names`, `json`, `output`, `help`.
 
 pub mod ancestry;
@@ -19,6 +20,7 @@ pub mod library;
 pub mod names;
 pub mod output;
 pub mod queue;
+pub mod receipts;
 pub mod show;
 pub mod times;
 pub mod types;

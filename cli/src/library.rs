@@ -152,3 +152,26 @@ pub fn ancestry(board: Board, item: usize, tables: &mut Tables) -> Result<Vec<u3
     list.truncate(count as usize);
     Ok(list)
 }
+
+/// For each receipt the main number of its cast; none where the board has no such cast.
+pub fn receipts(board: Board, receipts: &[u32], tables: &mut Tables) -> Result<Vec<Option<u32>>, Refusal> {
+    let mut answer = [0; TIRFOLMA_AUDIT_WORDS];
+    let mut answers = [0; TIRFOLMA_RECEIPTS];
+    let done = tirfolma_receipts(
+        board.words,
+        board.verdicts,
+        board.roll,
+        receipts,
+        &mut tables.index,
+        &mut tables.ballots,
+        &mut answers,
+        &mut answer,
+    );
+    assert!(done, "{SHORT}");
+    if answer[TIRFOLMA_NUMBER] != 0 {
+        return Err(Refusal { number: answer[TIRFOLMA_NUMBER], items: answer[TIRFOLMA_ITEMS] });
+    }
+    let count = receipts.len() / Format::of(board.words).curve.receipt();
+    let cast = |&word: &u32| Some(word).filter(|&word| word as usize != TIRFOLMA_NO_CAST);
+    Ok(answers[..count].iter().map(cast).collect())
+}

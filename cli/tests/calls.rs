@@ -6,7 +6,7 @@ use common::*;
 use std::fs;
 use tirfolma::help::{COMMANDS, EXIT};
 
-/// DIR stands for a good folder, '' for an empty word.
+/// DIR stands for a good folder, FILE for one that has no receipts, '' for an empty word.
 const WRONG: &[&str] = &[
     "",
     "''",
@@ -51,6 +51,13 @@ const WRONG: &[&str] = &[
     "ancestry DIR",
     "ancestry DIR 1 1",
     "ancestry --explain DIR 1",
+    "receipts",
+    "receipts DIR",
+    "receipts DIR FILE FILE",
+    "receipts --explain DIR FILE",
+    "receipts DIR ''",
+    "receipts '' FILE",
+    "receipts DIR -",
     "show",
     "show DIR DIR",
     "show --rows DIR",
@@ -59,9 +66,14 @@ const WRONG: &[&str] = &[
 #[test]
 fn wrong_calls() {
     let good = root().join("samples/election").display().to_string();
+    let temp = Temp::new("wrong");
+    let file = temp.join("receipts").display().to_string();
+    fs::write(&file, []).expect("written");
+    assert_eq!(tirfolma(["receipts", &good, &file]).status, 0);
     for call in WRONG {
         let words = call.split_whitespace().map(|word| match word {
             "DIR" => good.as_str(),
+            "FILE" => file.as_str(),
             "''" => "",
             word => word,
         });
@@ -114,7 +126,7 @@ fn help() {
         _ => &["--json", "--help"],
     };
     let names: Vec<&str> = COMMANDS.iter().map(|command| command.name).collect();
-    assert_eq!(names, ["audit", "compare", "ancestry", "show"]);
+    assert_eq!(names, ["audit", "compare", "ancestry", "receipts", "show"]);
     for name in names.iter().copied().chain([""]) {
         let text = help_of(name);
         let too_wide = text.lines().find(|line| line.chars().count() > 80);
@@ -281,6 +293,9 @@ fn completion() {
     assert_eq!(completed(&["tirfolma", "compare", "--"]), ["--json", "--help"]);
     assert_eq!(completed(&["tirfolma", "compare", "--r"]), [] as [&str; 0]);
     assert_eq!(completed(&["tirfolma", "audit", "so"]), ["some folder"]);
+    let mut offered = completed(&["tirfolma", "receipts", "other", "so"]);
+    offered.sort();
+    assert_eq!(offered, ["some file", "some folder"], "a file is asked for");
     let commands = completed(&["tirfolma", ""]);
     assert!(COMMANDS.iter().all(|command| commands.iter().any(|offered| offered == command.name)), "{commands:?}");
 }

@@ -179,7 +179,13 @@ fn no_folder_at_all() {
 fn an_empty_name_is_a_missing_folder() {
     let temp = Temp::new("nameless");
     let here = temp.board("here", &sound());
-    for words in [&["audit", ""][..], &["compare", "", ""], &["compare", ".", ""], &["ancestry", "", "1"]] {
+    for words in [
+        &["audit", ""][..],
+        &["compare", "", ""],
+        &["compare", ".", ""],
+        &["ancestry", "", "1"],
+        &["receipts", "", NAMES[0]],
+    ] {
         let mut command = std::process::Command::new(PROGRAM);
         command.current_dir(&here).args(words);
         let ran = run(command);
@@ -241,6 +247,11 @@ fn in_place_of_each(name: &str, put: impl Fn(&Path)) {
                 all
             },
         ));
+        ran.assert_failed(name);
+        assert!(ran.errors().contains(&path), "{}", ran.errors());
+        let receipts = temp.join("receipts");
+        fs::write(&receipts, []).expect("written");
+        let ran = tirfolma(words_of(&["receipts"], [&folder, &receipts]));
         ran.assert_failed(name);
         assert!(ran.errors().contains(&path), "{}", ran.errors());
     }

@@ -86,7 +86,7 @@ fn compiles(header: &str, c: &str) -> Result<(), String> {
 #[test]
 fn the_compiler_agrees() {
     let declared = built();
-    assert!(declared.constants.len() > 30 && declared.functions.len() == 3);
+    assert!(declared.constants.len() > 30 && declared.functions.len() == 4);
     compiles(&header(), &in_c(&declared)).unwrap_or_else(|why| panic!("{why}"));
 }
 
@@ -128,6 +128,10 @@ fn parameters_are_in_the_order_of_the_calls() {
         ("tirfolma_audit", format!("{board} {tables} answer answer_words")),
         ("tirfolma_compare", format!("{compared} {} {} answer answer_words", pair("kept"), pair("later"))),
         ("tirfolma_ancestry", format!("{board} item_number {tables} list list_words answer answer_words")),
+        (
+            "tirfolma_receipts",
+            format!("{board} receipts receipt_words {tables} answers answers_words answer answer_words"),
+        ),
     ];
     let declared = built();
     let found: Vec<(&str, String)> = declared
@@ -139,10 +143,10 @@ fn parameters_are_in_the_order_of_the_calls() {
         })
         .collect();
     assert_eq!(found, right);
-    // What is only read is the boards; a number follows each pointer.
+    // What is only read is the boards and the receipts; a number follows each pointer.
     for (name, parameters) in &declared.functions {
         for (at, (parameter, kind)) in parameters.iter().enumerate() {
-            let is_read = ["board", "kept", "later"].contains(&parameter.as_str())
+            let is_read = ["board", "kept", "later", "receipts"].contains(&parameter.as_str())
                 || parameter.ends_with("verdicts")
                 || parameter.ends_with("roll");
             let is_number = parameter.ends_with("_words") || parameter.ends_with("_number");
@@ -218,6 +222,12 @@ fn mistakes() -> Vec<(&'static str, &'static str, &'static str)> {
         ("a constant behind a tab", "#define TIRFOLMA_LIST_WORDS 2048", "#define\tTIRFOLMA_LIST_WORDS 2048"),
         ("a name changed", "TIRFOLMA_ROW_CLOSER = 4", "TIRFOLMA_ROW_CLOSED = 4"),
         ("a function changed", "bool tirfolma_ancestry(", "bool tirfolma_lineage("),
+        (
+            "receipts for writing",
+            "const uint32_t *receipts, size_t receipt_words",
+            "uint32_t *receipts, size_t receipt_words",
+        ),
+        ("a receipt's words", "TIRFOLMA_RECEIPT_WORDS_521 49", "TIRFOLMA_RECEIPT_WORDS_521 48"),
         ("a comment without an end", "/* ---- ancestry */", "/* ---- ancestry"),
     ]
 }

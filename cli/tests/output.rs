@@ -200,7 +200,13 @@ fn other_commands_have_the_documented_keys() {
     let traits = temp.board("cut", &[bytes(&traits), vec![], vec![]]).display().to_string();
     let shown = [&good, &bad, &traits].map(|folder| keys(&["show", folder])).concat();
     let shown = [shown, vec!["folder_hex".to_string()]].concat();
-    for (name, seen) in [("compare", compared), ("ancestry", listed), ("show", shown)] {
+    let file = |name: &str, bytes: usize| {
+        fs::write(temp.join(name), vec![0; bytes]).expect("written");
+        temp.join(name).display().to_string()
+    };
+    let (one, none) = (file("one", 4 * 24), file("none", 4));
+    let answered = [keys(&["receipts", &good, &one]), keys(&["receipts", &good, &none])].concat();
+    for (name, seen) in [("compare", compared), ("ancestry", listed), ("receipts", answered), ("show", shown)] {
         check_documented(name, &seen.iter().map(String::as_str).collect());
     }
 }
@@ -268,11 +274,15 @@ fn the_stack_does_not_depend_on_the_environment() {
 #[test]
 fn output_that_is_full() {
     let good = root().join("samples/election").display().to_string();
+    let temp = Temp::new("full");
+    let receipts = temp.join("receipts").display().to_string();
+    fs::write(&receipts, [0; 4 * 24]).expect("written");
     for words in [
         &["audit", &good][..],
         &["audit", "--json", "--summary", &good],
         &["compare", &good, &good],
         &["ancestry", &good, "9"],
+        &["receipts", &good, &receipts],
         &["--help"],
         &["--version"],
         &["--man"],

@@ -113,3 +113,22 @@ bool tirfolma_ancestry(
     fill("STAND_IN_LIST", list, list_words);
     return fill("STAND_IN_ANCESTRY", answer, answer_words);
 }
+
+bool tirfolma_receipts(
+    const uint32_t *board, size_t board_words,
+    const uint32_t *verdicts, size_t verdict_words,
+    const uint32_t *roll, size_t roll_words,
+    const uint32_t *receipts, size_t receipt_words,
+    uint32_t *index, size_t index_words,
+    uint32_t *ballots, size_t ballot_words,
+    uint32_t *answers, size_t answers_words,
+    uint32_t *answer, size_t answer_words) {
+    const struct buffer all[] = {
+        {"board", board, board_words, false},     {"verdicts", verdicts, verdict_words, false},
+        {"roll", roll, roll_words, false},        {"receipts", receipts, receipt_words, false},
+        {"index", index, index_words, true},      {"ballots", ballots, ballot_words, true},
+        {"answers", answers, answers_words, true}, {"answer", answer, answer_words, true}};
+    note("receipts", all, sizeof all / sizeof *all, NULL);
+    fill("STAND_IN_ANSWERS", answers, answers_words);
+    return fill("STAND_IN_RECEIPTS", answer, answer_words);
+}

@@ -158,16 +158,65 @@ fn an_ancestry_is_printed_as_it_is_answered() {
     assert_eq!((ran.text(), ran.status), ("refused 19 at 48\n", 1));
 }
 
+#[test]
+fn receipts_are_answered_as_the_library_does() {
+    let temp = two_boards();
+    fs::write(temp.join("receipts"), [0, 0, 0, 77].repeat(3 * 24)).expect("written");
+    let call = ["receipts", "kept", "receipts"];
+    let answered = [("STAND_IN_RECEIPTS", "0 9 8 0 0 0"), ("STAND_IN_ANSWERS", "2048 4294967295 1 9 9")];
+    let (ran, notes) = ask(&temp, &answered, &call);
+    assert_eq!((ran.text(), ran.status, ran.errors()), ("1 2048\n2 none\n3 1\n", 1, ""));
+    let given = KEPT.replace(" index", " receipts:72:77 index");
+    assert_eq!(notes, format!("receipts {given} answers:512 answer:22\n"));
+    let (ran, _) = ask(&temp, &answered, &[&call[..], &["--json"]].concat());
+    let list = r#"[{"receipt":1,"main":2048},{"receipt":2,"main":null},{"receipt":3,"main":1}]"#;
+    assert_eq!((ran.text(), ran.status), (format!("{{\"answer\":\"answered\",\"list\":{list}}}\n").as_str(), 1));
+    // A word that is nearly the one for none is a number.
+    let all = [("STAND_IN_RECEIPTS", "0 9 8 0 0 0"), ("STAND_IN_ANSWERS", "4294967294 2147483647 65535")];
+    let (ran, _) = ask(&temp, &all, &call);
+    assert_eq!((ran.text(), ran.status), ("1 4294967294\n2 2147483647\n3 65535\n", 0));
+    // A refusal is what it is, also where nothing in the files shows it: then nothing is claimed of them.
+    for number in (1..=16).chain([18, 20, 21, 22]) {
+        let (ran, _) = ask(&temp, &[("STAND_IN_RECEIPTS", &format!("{number} 7"))], &call);
+        assert_eq!((ran.lines()[0], ran.status), (format!("refused {number} at 7").as_str(), 1));
+        assert!(ran.lines()[1].starts_with("    ") && ran.lines().len() == 3, "{}", ran.text());
+    }
+    let (ran, _) = ask(&temp, &[("STAND_IN_RECEIPTS", "22 0")], &call);
+    let general = "The file of receipts is refused: bad receipts: not whole ones, or more than 512. \
+                   Look at the size of the file of receipts.";
+    assert_eq!(ran.lines()[1].trim(), general);
+}
+
+/// There is a line for as many receipts as the words are on the board's curve.
+#[test]
+fn receipts_are_as_wide_as_the_board_says() {
+    let temp = two_boards();
+    fs::write(temp.join("receipts"), vec![7; 4 * 72 * 49]).expect("written");
+    let answers: Vec<String> = (1..=512).map(|number| number.to_string()).collect();
+    let answers = [("STAND_IN_RECEIPTS", "0 9 8 0 0 0"), ("STAND_IN_ANSWERS", &answers.join(" "))];
+    for (traits, size) in [(0, 24), (1, 24), (2, 36), (3, 36), (4, 49), (5, 49), (6, 24)] {
+        let mut board = [0; 19];
+        (board[0], board[18]) = (0x1001_0012, traits);
+        let bytes: Vec<u8> = board.iter().flat_map(|word: &u32| word.to_be_bytes()).collect();
+        fs::write(temp.join("kept/board.words"), bytes).expect("written");
+        let (ran, _) = ask(&temp, &answers, &["receipts", "kept", "receipts"]);
+        let lines: Vec<String> = (1..=72 * 49 / size).map(|number| format!("{number} {number}")).collect();
+        assert_eq!((ran.lines(), ran.status), (lines.iter().map(String::as_str).collect(), 0), "traits {traits}");
+    }
+}
+
 /// What the header says never happens is an error, not an answer.
 #[test]
 fn a_library_that_does_not_answer() {
     let temp = two_boards();
     let audit = ("STAND_IN_AUDIT", "0 9 8 0 0 0 1 1 1 1 1 1 1 1");
-    let cases: [(Answers, &[&str]); 4] = [
+    fs::write(temp.join("receipts"), []).expect("written");
+    let cases: [(Answers, &[&str]); 5] = [
         (&[], &["audit", "kept"]),
         (&[audit], &["compare", "kept", "later"]),
         (&[audit, ("STAND_IN_COMPARE", "4 0 0 0 0 0")], &["compare", "kept", "later"]),
         (&[audit], &["ancestry", "kept", "1"]),
+        (&[audit], &["receipts", "kept", "receipts"]),
     ];
     for (answers, words) in cases {
         let (ran, _) = ask(&temp, answers, words);
@@ -186,11 +235,20 @@ fn the_library_is_not_asked_in_vain() {
     let (ran, notes) = ask(&temp, &[refused, same], &["compare", "kept", "later"]);
     assert_eq!((ran.text(), ran.status), ("kept refused 7 at 3\n", 1));
     assert!(!notes.contains("board:4"), "{notes}");
+    fs::write(temp.join("receipts"), [0; 4]).expect("written");
+    fs::write(temp.join("odd"), [0; 6]).expect("written");
     fs::write(temp.join("later/roll.words"), [0; 5]).expect("written");
     let (ran, _) = ask(&temp, &[sound, same], &["compare", "kept", "later"]);
     assert_eq!((ran.text(), ran.status), ("later refused 4 at 0\n", 1));
-    for words in [&["audit", "later"][..], &["ancestry", "later", "1"], &["compare", "later", "kept"]] {
-        let (ran, notes) = ask(&temp, &[sound, same, ("STAND_IN_ANCESTRY", "0 0")], words);
+    let others = [("STAND_IN_ANCESTRY", "0 0"), ("STAND_IN_RECEIPTS", "0 0")];
+    for words in [
+        &["audit", "later"][..],
+        &["ancestry", "later", "1"],
+        &["compare", "later", "kept"],
+        &["receipts", "later", "receipts"],
+        &["receipts", "kept", "odd"],
+    ] {
+        let (ran, notes) = ask(&temp, &[sound, same, others[0], others[1]], words);
         assert!(ran.text().contains("refused 4 at 0\n"), "{words:?}: {}", ran.text());
         assert_eq!((notes.as_str(), ran.status), ("", 1), "{words:?}");
     }

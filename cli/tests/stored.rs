@@ -1,5 +1,5 @@
 //! The stored boards: on each the program says what the auditor prints, and of a folder without a file that it was not audited. The stored
-//! comparisons: of each it says what is expected.
+//! comparisons and receipts: of each it says what is expected.
 
 mod common;
 
@@ -146,4 +146,48 @@ fn each_comparison_is_answered_as_expected() {
         answers.insert(answer.split(' ').next().expect("a word").trim().to_string());
     }
     assert_eq!(answers, ["apart", "kept", "later", "same"].map(String::from).into());
+}
+
+/// What is printed first of stored receipts: a line for each, or the refusal. None where a buffer is too short, which the program's is not.
+fn answered(folder: &Path) -> Option<String> {
+    let text = fs::read_to_string(folder.join("expected")).expect("what is expected is stored");
+    let found = |key: &str| text.lines().find_map(|line| line.strip_prefix(key)).unwrap_or_else(|| panic!("{text}"));
+    let (number, items) = found("answer ").split_once(' ').expect("two numbers");
+    match number {
+        "0" => {
+            // Behind the answers the buffer has zeros.
+            let mains = found("answers").split_whitespace().take_while(|&word| word != "0").enumerate();
+            let line = |(at, main)| format!("{} {}\n", at + 1, if main == "4294967295" { "none" } else { main });
+            Some(mains.map(line).collect())
+        }
+        "2" => None,
+        _ => Some(format!("refused {number} at {items}\n")),
+    }
+}
+
+#[test]
+fn each_receipt_is_answered_as_expected() {
+    let temp = Temp::new("answered");
+    let file = temp.join("receipts.words");
+    let (mut refused, mut statuses) = (BTreeSet::new(), [0; 2]);
+    for folder in stored("tests/receipts") {
+        let board = temp.board("board", &read(&folder));
+        fs::write(&file, fs::read(folder.join("receipts.words")).unwrap_or_default()).expect("written");
+        let ran = tirfolma(words_of(&["receipts"], [&board, &file]));
+        let Some(right) = answered(&folder) else {
+            assert!(!ran.text().starts_with("refused 2 "), "{}", folder.display());
+            continue;
+        };
+        let status = i32::from(right.contains("none") || right.starts_with("refused"));
+        assert_eq!((ran.status, ran.errors()), (status, ""), "{}", folder.display());
+        statuses[status as usize] += 1;
+        match right.starts_with("refused") {
+            true => {
+                assert!(ran.text().starts_with(&right), "{}: {}", folder.display(), ran.text());
+                refused.insert(right.split(' ').nth(1).expect("a number").to_string());
+            }
+            false => assert_eq!(ran.text(), right, "{}", folder.display()),
+        }
+    }
+    assert!(statuses[0] > 0 && statuses[1] > 20 && refused.contains("22"), "{statuses:?}, {refused:?}");
 }

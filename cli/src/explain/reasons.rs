@@ -12,7 +12,7 @@ pub fn of(number: u32) -> Option<Reason> {
     let of_item = matches!(number, 5..=16 | 21);
     let (wrong, look) = match number {
         1 => ("too large: more words than the limit, or a 2049th item", "the size of board.words"),
-        2 => ("a table of the calling program is too short", "the calling program"),
+        2 => ("a buffer of the calling program is too short", "the calling program"),
         3 => ("empty: no words, or the first is a closing word", "whether board.words was written"),
         4 => (
             "truncated: an item runs past the end, or there is no closing word",
@@ -43,6 +43,7 @@ pub fn of(number: u32) -> Option<Reason> {
         19 => ("no such item", "the number that was asked for"),
         20 => ("bad roll", "the size and the order of roll.words"),
         21 => ("its voter is not on the roll with its weight", "its first two content words, and roll.words"),
+        22 => ("bad receipts: not whole ones, or more than 512", "the size of the file of receipts"),
         _ => return None,
     };
     Some(Reason { wrong, look, of_item })

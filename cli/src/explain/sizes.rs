@@ -48,7 +48,7 @@ pub fn empty(files: &Files) -> Option<String> {
 /// 4: a file that is not of whole words, an item that is not whole, no closing word.
 pub fn truncated(files: &Files, items: u32) -> Option<String> {
     if files.size_refusal() == Some(Refusal { number: 4, items }) {
-        return Some(part_of_a_word(files));
+        return Some(part_of_a_word(NAMES.into_iter().zip(files.each())));
     }
     let board = &files.board.words;
     let words = board.len();
@@ -72,8 +72,9 @@ pub fn truncated(files: &Files, items: u32) -> Option<String> {
     })
 }
 
-fn part_of_a_word(files: &Files) -> String {
-    let cut = NAMES.iter().zip(files.each()).filter(|(_, file)| !file.is_whole());
+/// Of files by their names: which are not of whole words.
+pub fn part_of_a_word<'a>(files: impl Iterator<Item = (&'a str, &'a Words)>) -> String {
+    let cut = files.filter(|(_, file)| !file.is_whole());
     let cut: Vec<String> = cut.map(|(name, file)| format!("{name} has {}", count(file.bytes, "byte"))).collect();
     let wrong = match cut.len() {
         1 => "which is no multiple of 4: the last word is not whole. Look at how it was copied",

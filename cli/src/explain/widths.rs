@@ -7,6 +7,7 @@ use crate::format::{
     bits_without_meaning, curve_number, has_no_traits, traits, By, Format, Members, CURVES, TRAITS_PLACE,
 };
 use crate::types::code::GENESIS;
+use std::fmt::Display;
 
 /// As many bits are listed.
 const LISTED: usize = 3;
@@ -23,7 +24,7 @@ pub fn on_board(format: Format, by: By, rule: &str) -> String {
 }
 
 /// Behind such a rule: that the number would do with other formats.
-pub fn would_fit(number: usize, format: Format, others: &[Format]) -> String {
+pub fn would_fit(number: impl Display, format: Format, others: &[Format]) -> String {
     let others: Vec<String> = others.iter().map(|other| difference(format, *other)).collect();
     format!("; {number} would fit {}", others.join(", or "))
 }
