@@ -54,6 +54,21 @@ static void free_board(struct board board)
     free(board.roll.at);
 }
 
+/* The curves, by their numbers in the traits word. */
+struct curve {
+    const char *name;
+    size_t address, signature;
+};
+
+static const struct curve curves[] = {{"secp256r1", 8, 16}, {"secp384r1", 12, 24}, {"secp521r1", 16, 33}};
+
+static inline const struct curve *curve_of(const struct words *words)
+{
+    bool told = words->count > 18 && words->at[0] == 0x10010012;
+    uint32_t number = told ? words->at[18] >> 1 : 0;
+    return number < sizeof curves / sizeof curves[0] ? &curves[number] : &curves[0];
+}
+
 /* The processor time of this thread, in microseconds: other programs on the machine count little. */
 static double now(void)
 {

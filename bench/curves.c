@@ -11,25 +11,18 @@
 /* A row's runs; where its bar is missed they go on, up to so many: a busy machine spoils some of them. */
 enum { RUNS = 100, MOST_RUNS = 1000 };
 
-/* ---- the curves, by their numbers in the traits word */
+/* ---- the hash of each curve */
 
-struct curve {
-    const char *name, *hash_name;
-    void (*hash)(const uint32_t *words, size_t count, uint32_t *digest);
-    size_t address, signature;
+struct hash {
+    const char *name;
+    void (*of)(const uint32_t *words, size_t count, uint32_t *digest);
 };
 
-static const struct curve curves[] = {
-    {"secp256r1", "SHA-256", plain_sha256_words, 8, 16},
-    {"secp384r1", "SHA-384", plain_sha384_words, 12, 24},
-    {"secp521r1", "SHA-512", plain_sha512_words, 16, 33},
-};
+static const struct hash hashes[] = {{"SHA-256", plain_sha256_words}, {"SHA-384", plain_sha384_words}, {"SHA-512", plain_sha512_words}};
 
-static const struct curve *curve_of(const struct words *words)
+static const struct hash *hash_of(const struct curve *curve)
 {
-    bool told = words->count > 18 && words->at[0] == 0x10010012;
-    uint32_t number = told ? words->at[18] >> 1 : 0;
-    return number < sizeof curves / sizeof curves[0] ? &curves[number] : &curves[0];
+    return &hashes[curve - curves];
 }
 
 /* ---- the items */
@@ -55,10 +48,11 @@ static size_t items_of(const struct words *words, const struct curve *curve, con
 /* The time of the hashes of all items. */
 static double hash_all(const struct words *words, const struct curve *curve, const struct item *items, size_t count)
 {
+    const struct hash *hash = hash_of(curve);
     uint32_t digest[16];
     double start = now();
     for (size_t k = 0; k < count; k++) {
-        curve->hash(words->at + items[k].place, items[k].hashed, digest);
+        hash->of(words->at + items[k].place, items[k].hashed, digest);
         if (digest[0] != words->at[items[k].address])
             exit(2);
     }
@@ -82,7 +76,7 @@ static bool row(const char *folder, double bar)
     size_t count = items_of(&board.words, curve, &left, items);
     for (size_t k = 0; k < count; k++) {
         uint32_t digest[16];
-        curve->hash(board.words.at + items[k].place, items[k].hashed, digest);
+        hash_of(curve)->of(board.words.at + items[k].place, items[k].hashed, digest);
         if (memcmp(digest, board.words.at + items[k].address, curve->address * sizeof digest[0]) != 0) {
             fprintf(stderr, "%s: item %zu does not have its hash by plain C\n", folder, k + 1);
             exit(2);
@@ -98,7 +92,7 @@ static bool row(const char *folder, double bar)
         runs++;
     }
     printf("an audit of %zu items, %zu words, on %s, best of %d runs\n", count, board.words.count, curve->name, runs);
-    printf("  %-20s %10.1f us  %6.3f us an item\n", curve->hash_name, hashes, hashes / (double)count);
+    printf("  %-20s %10.1f us  %6.3f us an item\n", hash_of(curve)->name, hashes, hashes / (double)count);
     printf("  %-20s %10.1f us  %6.3f us an item\n", "audit", audit, audit / (double)count);
     bool met = audit / hashes <= bar;
     printf("  %.3f of the time of its hashes in plain C, at most %.3f wanted: %s\n", audit / hashes, bar, met ? "met" : "MISSED");
