@@ -5,8 +5,8 @@
      is 0, the pointer is not followed; it may not be null, so pass the address of any word.
    - A buffer that is lent for writing overlaps no other buffer of the call. Those that are only read may overlap.
    - No other thread writes a buffer, or reads one that is lent for writing, during the call.
-   - The stack has room: an audit takes some 38 KiB of it, answering receipts some 14 KiB more, and ancestry, which calls itself for each
-     parent, up to 130 KiB more.
+   - The stack has room: an audit takes some 38 KiB of it, answering receipts or holding notes some 14 KiB more, and ancestry,
+     which calls itself for each parent, up to 130 KiB more.
    The functions keep nothing, allocate nothing, and may be called from several threads at once. */
 #ifndef TIRFOLMA_H
 #define TIRFOLMA_H
@@ -49,7 +49,7 @@ enum {
 
 /* Where the answer's words stand. */
 enum {
-    TIRFOLMA_NUMBER = 0,      /* 0: accepted; 1 to 16, 18, 20 or 21: the refusal; of tirfolma_receipts also 22 */
+    TIRFOLMA_NUMBER = 0,      /* 0: accepted; 1 to 16, 18, 20 or 21: the refusal; of tirfolma_receipts also 22, of tirfolma_notes 23 */
     TIRFOLMA_ITEMS = 1,       /* items; of a refusal, those that passed */
     TIRFOLMA_MAINS = 2,       /* main items */
     TIRFOLMA_BALLOTS = 3,     /* counted ballots */
@@ -221,6 +221,58 @@ bool tirfolma_receipts(
     uint32_t *index, size_t index_words,
     uint32_t *ballots, size_t ballot_words,
     uint32_t *answers, size_t answers_words,
+    uint32_t *answer, size_t answer_words);
+
+/* ---- notes */
+
+/* The most notes that are held against a board at once. */
+#define TIRFOLMA_NOTES 1024
+
+/* Words of a note of a board on secp256r1, secp384r1 and secp521r1: a time of two words, the high one first, then an address. */
+#define TIRFOLMA_NOTE_WORDS 10
+#define TIRFOLMA_NOTE_WORDS_384 14
+#define TIRFOLMA_NOTE_WORDS_521 18
+
+/* Words of the answer: those of tirfolma_audit's, and two more. */
+#define TIRFOLMA_NOTES_ANSWER_WORDS 24
+
+/* Where these two stand. */
+enum {
+    TIRFOLMA_AGREEMENT = TIRFOLMA_AUDIT_WORDS,     /* one of those below */
+    TIRFOLMA_FIRST_NOTE = TIRFOLMA_AUDIT_WORDS + 1 /* the number, from 1, of the first note that disagrees; else 0 */
+};
+
+enum {
+    TIRFOLMA_NOT_HELD = 0,     /* the notes or the board are refused */
+    TIRFOLMA_ALL_AGREE = 1,
+    TIRFOLMA_NO_MAIN_ITEM = 2, /* its address is no main item's */
+    TIRFOLMA_OUT_OF_ORDER = 3, /* its main item is earlier than that of the note before */
+    TIRFOLMA_TOO_EARLY = 4     /* its time is less than that of its main item */
+};
+
+/* Audits a board with its verdict words and the roll of its voters, then holds a watcher's notes against it, and gives the first that
+   disagrees: whose address is no main item's, or whose main item is earlier than that of the note before, or whose time is less than that
+   item's; where two of these hold of it, the one named first. With an address on two main items the first is meant. The same main item as
+   that of the note before is no disagreement, and the times of the notes need not rise. A note is a time and then an address, of the board's
+   width, which is read from the board as for tirfolma_audit, also where the board is refused. Words that are not whole notes, or more than
+   1024 notes, are refused by 23, before the audit and with 0 items. Notes of no words are good, and all agree.
+
+   If all agree, the board cut behind each noted item (the words up to there, a closing word with the number of these items, nine verdict
+   words for each, the same roll) is accepted, and has the noted address for its end: `noted-cut` in crates/watch/proofs/Claims.antt.
+
+   True: the first 22 words of the answer are as those of tirfolma_audit, with 23 among the refusals, the next two as above, and the words
+   behind them as they were. The tables are as tirfolma_audit leaves them, so they are filled where a note disagrees; under 23 they are as
+   they were.
+   False: the answer has fewer than 24 words. No word of any buffer is written.
+
+   Contract: `Held` in crates/abi/specs/Written.antt. */
+bool tirfolma_notes(
+    const uint32_t *board, size_t board_words,
+    const uint32_t *verdicts, size_t verdict_words,
+    const uint32_t *roll, size_t roll_words,
+    const uint32_t *notes, size_t note_words,
+    uint32_t *index, size_t index_words,
+    uint32_t *ballots, size_t ballot_words,
     uint32_t *answer, size_t answer_words);
 
 #ifdef __cplusplus

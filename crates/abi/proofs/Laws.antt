@@ -14,12 +14,15 @@ use Rattle.model.specs.Audit.{Outcome}
 use Rattle.model.specs.Comparing.{ComparingAnswer, comparingAnswer, laterIndexAfter, laterBallotsAfter}
 use Rattle.model.specs.Ancestry.{AncestryAnswer, ancestryAnswer, listAfter}
 use Rattle.model.specs.Receipts.{answersAfter}
+use Rattle.watch.specs.Notes.{agreement}
 use Rattle.compare.specs.declared.Comparison.{Comparison}
 use Rattle.compare.specs.Answer as comparing
 use Rattle.ancestry.specs.declared.Listing.{Listing}
 use Rattle.ancestry.specs.Answer as listing
-use Rattle.answers.specs.Words.{answerWords, auditSize, overwritten, compareSize, comparisonWords, ancestrySize, listingWords}
-use Rattle.abi.specs.Written.{hasRoom, AuditWritten, ComparisonWritten, ListingWritten, AnswersWritten}
+use Rattle.notes.specs.declared.Agreement.{Agreement}
+use Rattle.notes.specs.Holding.{agreementOf}
+use Rattle.answers.specs.Words.{answerWords, auditSize, overwritten, compareSize, comparisonWords, ancestrySize, listingWords, notesSize, heldWords}
+use Rattle.abi.specs.Written.{hasRoom, AuditWritten, ComparisonWritten, ListingWritten, AnswersWritten, HeldWritten}
 
 module _ (f : Format) (outcome : Outcome) (index ballots answer : List ℕ) where
   -- no room for the answer
@@ -77,3 +80,16 @@ module _ (f : Format) (receipts : List ℕ) (outcome : Outcome) (index ballots a
   answered-told h r told ei eb en ea =
       let yes : hasRoom auditSize answer ≡ true = le-leb auditSize (length answer) h in
       record { audited = audited-told f outcome index ballots answer h r told ei eb ea; numbers = rw yes en }
+
+module _ (f : Format) (notes : List ℕ) (outcome : Outcome) (index ballots answer : List ℕ) where
+  pub held-short : length answer < notesSize → HeldWritten f notes outcome index ballots answer false index ballots answer
+  held-short h =
+      let no : hasRoom notesSize answer ≡ false = lt-leb notesSize (length answer) h in
+      record { is = sym no; words = rw no; indexRows = rw no; ballotRows = rw no }
+
+  pub held-told : notesSize ≤ length answer → (r : Report) → reported r ≡ reportOf f outcome → (a : Agreement) → agreementOf a ≡ agreement f notes outcome
+      → {i b w : List ℕ} → i ≡ indexAfter outcome index → b ≡ ballotsAfter outcome ballots
+      → w ≡ overwritten (heldWords (reported r) (agreementOf a)) answer → HeldWritten f notes outcome index ballots answer true i b w
+  held-told h r told a agreed ei eb ew =
+      let yes : hasRoom notesSize answer ≡ true = le-leb notesSize (length answer) h in
+      record { is = sym yes; words = rw yes (ew ∙ rw (told, agreed)); indexRows = rw yes ei; ballotRows = rw yes eb }

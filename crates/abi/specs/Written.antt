@@ -12,11 +12,13 @@ use Rattle.model.specs.Report.{reportOf, indexAfter, ballotsAfter}
 use Rattle.model.specs.Comparing.{comparingAnswer, laterIndexAfter, laterBallotsAfter}
 use Rattle.model.specs.Ancestry.{ancestryAnswer, listAfter}
 use Rattle.model.specs.Receipts.{answersAfter}
+use Rattle.watch.specs.Notes.{agreement}
 use Rattle.format.specs.Format.{formatOf}
 use Rattle.audit.specs.Outcome.{Slice, outcomeOf}
 use Rattle.entries.specs.Listing.{listingOutcome}
 use Rattle.entries.specs.Answering.{receiptsOutcome}
-use Rattle.answers.specs.Words.{overwritten, auditSize, answerWords, compareSize, comparisonWords, ancestrySize, listingWords}
+use Rattle.entries.specs.Watching.{notesOutcome}
+use Rattle.answers.specs.Words.{overwritten, auditSize, answerWords, compareSize, comparisonWords, ancestrySize, listingWords, notesSize, heldWords}
 
 -- a slice that an entry writes: its words at entry and at exit
 abbrev pub Buffer : Type 0
@@ -99,3 +101,22 @@ Answered board verdicts roll receipts index ballots answers answer told =
     AnswersWritten (formatOf (now (board .entry))) (now (receipts .entry)) (receiptsOutcome board verdicts roll receipts index ballots answers)
     (now (index .entry)) (now (ballots .entry)) (now (answers .entry)) (now (answer .entry)) told
     (now (index .exit)) (now (ballots .exit)) (now (answers .exit)) (now (answer .exit))
+
+-- ---- notes
+
+-- Of the board's format, the notes and the outcome. With room for the answer: true, the words of the report and of what the notes say over
+-- the first of the buffer, and the tables of the outcome. Without: false, and every word as it was.
+pub record HeldWritten (f : Format) (notes : List ℕ) (outcome : Outcome) (index ballots answer : List ℕ)
+    (told : Bool) (index′ ballots′ answer′ : List ℕ) : Type 0 where
+  pub is : told ≡ hasRoom notesSize answer
+  pub words : answer′
+      ≡ cond (hasRoom notesSize answer) (overwritten (heldWords (reportOf f outcome) (agreement f notes outcome)) answer) answer
+  pub indexRows : index′ ≡ cond (hasRoom notesSize answer) (indexAfter outcome index) index
+  pub ballotRows : ballots′ ≡ cond (hasRoom notesSize answer) (ballotsAfter outcome ballots) ballots
+
+-- of what the caller passed
+abbrev pub Held : {A B C D : Type 0} → Slice A → Slice B → Slice C → Slice D → Buffer → Buffer → Buffer → Bool → Type 0
+Held board verdicts roll notes index ballots answer told =
+    HeldWritten (formatOf (now (board .entry))) (now (notes .entry)) (notesOutcome board verdicts roll notes index ballots)
+    (now (index .entry)) (now (ballots .entry)) (now (answer .entry)) told
+    (now (index .exit)) (now (ballots .exit)) (now (answer .exit))

@@ -1,10 +1,11 @@
 // The auditor for programs in C and Rust. A caller outside Rattle is checked by nothing, so an entry requires nothing: it refuses.
 // include/tirfolma.h has the same for the caller.
-ghost use Rattle.abi.specs.Written.{Audited, Compared, Listed, Answered};
+ghost use Rattle.abi.specs.Written.{Audited, Compared, Listed, Answered, Held};
 use answers::Size;
 use entries::answering;
 use entries::comparing;
 use entries::listing;
+use entries::watching;
 
 // Audits a board with its verdict words and the roll of its voters, writes the report into the first 22 words of the answer and the rows
 // into the tables, and returns true, of a refusal too. Where the answer is shorter, returns false and writes nothing.
@@ -110,5 +111,28 @@ pub extern "C" fn tirfolma_receipts(
     }
     let report = answering::receipts(board, verdicts, roll, receipts, index, ballots, answers);
     answers::put_report(report, answer);
+    true
+}
+
+// Audits a board, holds a watcher's notes against it, writes the report and what the notes say into the first 24 words of the answer, and
+// returns true, of a refusal too. Where the answer is shorter, returns false and writes nothing.
+#[no_mangle]
+pub extern "C" fn tirfolma_notes(
+    board: &[u32],
+    verdicts: &[u32],
+    roll: &[u32],
+    notes: &[u32],
+    index: &mut [u32],
+    ballots: &mut [u32],
+    answer: &mut [u32],
+) -> bool
+    ensures { λ r. ⌜ Held board verdicts roll notes index ballots answer r ⌝ }
+{
+    if answer.len() < Size::NOTES {
+        return false;
+    }
+    let held = watching::notes(board, verdicts, roll, notes, index, ballots);
+    let agreement = held.agreement;
+    answers::put_held(held.report, agreement, answer);
     true
 }

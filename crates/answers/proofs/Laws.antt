@@ -13,8 +13,9 @@ use Rattle.model.specs.Report as model
 use Rattle.model.specs.Compare.{apart, same, collision}
 use Rattle.model.specs.Comparing.{ComparingAnswer, refusedBoard, compared}
 use Rattle.model.specs.Ancestry.{AncestryAnswer, unlisted, listed}
+use Rattle.watch.specs.Notes.{Agreement, notHeld, allAgree, disagrees}
 use Rattle.words.proofs.Writing.{sets-append, sets-first}
-use Rattle.answers.specs.Words.{headWords, answerWords, headOf, auditSize, overwritten, compareSize, comparisonWords, ancestrySize, listingWords}
+use Rattle.answers.specs.Words.{headWords, answerWords, headOf, auditSize, overwritten, compareSize, comparisonWords, ancestrySize, listingWords, notesSize, agreementWords, heldWords}
 
 -- ---- the words of a report
 
@@ -59,3 +60,26 @@ pub length-listingWords : (a : AncestryAnswer) → length (listingWords a) ≡ a
 unfolding listingWords
 length-listingWords (unlisted n k) = refl
 length-listingWords (listed m) = refl
+
+-- ---- behind a report, what notes say
+
+length-agreementWords : (a : Agreement) → length (agreementWords a) ≡ 2
+unfolding agreementWords
+length-agreementWords notHeld = refl
+length-agreementWords allAgree = refl
+length-agreementWords (disagrees n d) = refl
+
+report-length : (r : Report) → length (r .end) ≡ 16 → length (answerWords (reported r)) ≡ auditSize
+unfolding answerWords
+report-length r sixteen =
+    let size = length-append (headWords (reported r)) (reported r .end) in
+    omega (arith, size, length-headWords (reported r), ap length (end-answered (r .answer) (r .end)))
+
+pub held-put : (r : Report) (a : Agreement) (l : List ℕ) → length (r .end) ≡ 16 → notesSize ≤ length l
+    → {w l′ l″ : List ℕ} → l′ ≡ overwritten (answerWords (reported r)) l → w ≡ agreementWords a → l″ ≡ sets l′ auditSize w
+    → l″ ≡ overwritten (heldWords (reported r) a) l
+held-put r a l sixteen room p e q =
+    let ws = answerWords (reported r) in
+    let size = report-length r sixteen in
+    q ∙ rw (p, ← sets-first l ws (omega arith), e, sets-append l ws (agreementWords a) 0 auditSize (omega arith))
+    (sets-first l (ws ++ agreementWords a) (simp length-append (omega (arith, length-agreementWords a))))

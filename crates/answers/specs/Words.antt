@@ -6,6 +6,7 @@ use Rattle.model.specs.Report.{Report}
 use Rattle.model.specs.Compare.{apart, same, collision}
 use Rattle.model.specs.Comparing.{Board, keptBoard, laterBoard, ComparingAnswer, refusedBoard, compared}
 use Rattle.model.specs.Ancestry.{AncestryAnswer, unlisted, listed}
+use Rattle.watch.specs.Notes.{Disagreement, noMainItem, outOfOrder, tooEarly, Agreement, notHeld, allAgree, disagrees}
 use Rattle.report.specs.declared.Answer.{Answer}
 use Rattle.report.specs.Reported.{answered}
 
@@ -57,3 +58,24 @@ ancestrySize = 2
 unfoldable pub listingWords : AncestryAnswer → List ℕ
 listingWords (unlisted n k) = n ∷ k ∷ []
 listingWords (listed m) = 0 ∷ m ∷ []
+
+-- ---- notes
+
+abbrev pub notesSize : ℕ
+notesSize = 24
+
+-- 2 no main item, 3 out of order, 4 too early
+abbrev pub wayWord : Disagreement → ℕ
+wayWord noMainItem = 2
+wayWord outOfOrder = 3
+wayWord tooEarly = 4
+
+-- what the notes say (0 not held, 1 all agree, or what is wrong), and the number of the first that disagrees, else 0
+unfoldable pub agreementWords : Agreement → List ℕ
+agreementWords notHeld = 0 ∷ 0 ∷ []
+agreementWords allAgree = 1 ∷ 0 ∷ []
+agreementWords (disagrees n d) = wayWord d ∷ n ∷ []
+
+-- behind the words of a report
+abbrev pub heldWords : Report → Agreement → List ℕ
+heldWords r a = answerWords r ++ agreementWords a

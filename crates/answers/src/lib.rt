@@ -5,11 +5,15 @@ ghost use lib.ListN.{length};
 ghost use Rattle.report.specs.Reported.{reported};
 ghost use Rattle.compare.specs.Answer as comparing;
 ghost use Rattle.ancestry.specs.Answer as listed;
+ghost use Rattle.notes.specs.Holding.{wayOf, agreementOf};
 ghost use Rattle.answers.specs.Words.{overwritten, auditSize, headOf, answerWords};
 ghost use Rattle.answers.specs.Words.{compareSize, boardWord, comparisonWords, ancestrySize, listingWords};
+ghost use Rattle.answers.specs.Words.{notesSize, wayWord, agreementWords, heldWords};
 use ancestry::Listing;
 use compare::Board;
 use compare::Comparison;
+use notes::Agreement;
+use notes::Disagreement;
 use report::Answer;
 use report::Report;
 
@@ -25,6 +29,8 @@ impl Size {
     pub const COMPARE: usize = 6;
 
     pub const ANCESTRY: usize = 2;
+
+    pub const NOTES: usize = Size::AUDIT + 2;
 }
 
 // The high word of a number of two words.
@@ -131,4 +137,37 @@ pub fn put_listing(listing: Listing, buffer: &mut [u32])
 {
     let words = listing_words(listing);
     words::put(&words, buffer, 0);
+}
+
+// The word of what is wrong with a note.
+fn way_word(disagreement: Disagreement) -> u32
+    ensures { λ r. ⌜ r ≡ wayWord (wayOf disagreement) ⌝ }
+{
+    match disagreement {
+        Disagreement::NoMainItem => 2,
+        Disagreement::OutOfOrder => 3,
+        Disagreement::TooEarly => 4,
+    }
+}
+
+// What the notes say, and the number of the first that disagrees.
+fn agreement_words(agreement: Agreement) -> [u32; 2]
+    ensures { λ r. ⌜ r ≡ agreementWords (agreementOf agreement) ⌝ }
+{
+    match agreement {
+        Agreement::NotHeld => [0, 0],
+        Agreement::AllAgree => [1, 0],
+        Agreement::Disagrees { note, disagreement } => [way_word(disagreement), note],
+    }
+}
+
+// Writes the words of a report, and behind them what notes say, over the first of a buffer.
+pub fn put_held(report: Report, agreement: Agreement, buffer: &mut [u32])
+    requires { ⌜ notesSize ≤ length (now buffer) ⌝ }
+    ensures { λ _. ⌜ now (buffer .exit)
+        ≡ overwritten (heldWords (reported report) (agreementOf agreement)) (now (buffer .entry)) ⌝ }
+{
+    put_report(report, buffer);
+    let words = agreement_words(agreement);
+    words::put(&words, buffer, Size::AUDIT);
 }

@@ -1,12 +1,11 @@
 -- What answering receipts answers, and what the buffers hold, by its own checks and by what the audit answered. Assumes nothing.
-use Prim.Native.Nat.{ℕ, _+_, _*_, _%_, _≤_, _<_}
-use native.Mathlib.Nat.{add-zero, div-add-mod'}
+use Prim.Native.Nat.{ℕ, _≤_, _<_}
 use native.Mathlib.Omega.{arith}
-use mathlib.Core.Path.{_≡_, sym, ap, _∙_}
+use mathlib.Core.Path.{_≡_, sym, _∙_}
 use mathlib.Core.Bool.{Bool, true, false, not}
 use mathlib.Core.List.{List}
 use lib.ListN.{length}
-use lib.Dec.{T, eqb, leb, eqb→eq, le→leb}
+use lib.Dec.{T, leb, le→leb}
 use lib.Arith.{lt→nleb}
 use Rattle.model.specs.Refusal.{shortTable, badReceipts}
 use Rattle.model.specs.Format.{Format}
@@ -14,10 +13,11 @@ use Rattle.model.specs.History.{History}
 use Rattle.model.specs.Audit.{Outcome, unread, refused, accepted, audit}
 use Rattle.model.specs.Report.{reportOf, tableAfter, indexAfter, ballotsAfter}
 use Rattle.model.specs.Above.{bufferAfter}
-use Rattle.model.specs.Receipts.{receiptSize, receiptCount, isBadReceipts, receiptsAudit, answersAfter}
-use Rattle.model.proofs.Tests.{tests, passes, neither, not-not}
-use Rattle.model.proofs.Above.{checked-none, checked-passes, checked-fails}
+use Rattle.model.specs.Receipts.{receiptLimit, receiptSize, receiptCount, isBadReceipts, receiptsAudit, answersAfter}
+use Rattle.model.proofs.Tests.{passes, not-not}
+use Rattle.model.proofs.Above.{checked-none, checked-passes, checked-fails, good-parts}
 use Rattle.format.specs.Format.{formatOf}
+use Rattle.format.proofs.Traits.{sizes}
 use Rattle.report.specs.declared.Report.{Report}
 use Rattle.report.specs.Reported.{reported}
 use Rattle.receipts.specs.Answering.{Answerable}
@@ -80,13 +80,6 @@ module _ (board verdicts roll receipts index ballots answers : List ℕ) where
 
       pub answerable : total ≤ length answers → Answerable board receipts answers
       answerable l =
-          let size = receiptSize (formatOf board) in
-          let (whole, few) = simp neither at good in
-          let none : length receipts % size ≡ 0 = eqb→eq (length receipts % size) 0 (not-not (eqb (length receipts % size) 0) .0 whole) in
-          record {
-            good = record {
-              whole = sym (sym (add-zero _) ∙ ap (λ (m : ℕ). receiptCount (formatOf board) receipts * size + m) (sym none) ∙ div-add-mod' (length receipts) size);
-              few = omega (arith, tests);
-            };
-            room = rw counted at l;
-          }
+          let b = sizes board in
+          let (all, few) = good-parts (receiptSize (formatOf board)) (omega arith) receipts receiptLimit good in
+          record { good = record { whole = all; few = few }; room = rw counted at l }

@@ -3,3 +3,4 @@ pub mod Left
 pub mod Compared
 pub mod Listed
 pub mod Answered
+pub mod Watched

@@ -2,3 +2,4 @@
 pub mod answering;
 pub mod comparing;
 pub mod listing;
+pub mod watching;

@@ -24,7 +24,7 @@ use Rattle.model.proofs.Parsing.{words-at}
 use Rattle.model.proofs.Entries.{orderly, parent-some, parent-genesis, parent-bound, session-bound}
 use Rattle.model.proofs.Unchecked.{length-history}
 use Rattle.model.proofs.Tables.{length-indexRows, number-none, filled-append, filled-set}
-use Rattle.model.proofs.Growth.{rows-other, rows-close}
+use Rattle.model.proofs.OneItem.{rows-other, rows-close}
 use Rattle.format.specs.declared.head.Head.{Head}
 use Rattle.format.specs.Format.{formatOf}
 use Rattle.format.specs.Layout.{itemOf}

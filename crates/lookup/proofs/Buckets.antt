@@ -26,7 +26,7 @@ use Rattle.index.specs.Kept.{before, itemAfter}
 use Rattle.index.specs.Known.{IsKnown, Passing}
 use Rattle.index.proofs.Counts.{hasWords, words-law}
 use Rattle.index.proofs.Reading.{known-code, known-count, known-within, known-address, known-word}
-use Rattle.lookup.specs.Search.{addressOn}
+use Rattle.lookup.specs.Search.{addressIn}
 use Rattle.lookup.specs.Buckets.{ofVoter, ofSession, byAddress, byVoter, parentChain, sessionChain}
 
 -- ---- a bucket is one of the 2,048
@@ -54,9 +54,9 @@ byVoter-small board (suc k) = session-small (itemAfter board k)
 
 -- ---- the first word of an address
 
-pub first-word : (board : List ℕ) (at : ℕ) → getD (addressOn board at) 0 0 ≡ getD board at 0
+pub first-word : (board from : List ℕ) (at : ℕ) → getD (addressIn board from at) 0 0 ≡ getD from at 0
 unfolding part
-first-word board at = let b = sizes board in rw (getD-take (formatOf board .address) (drop at board) 0 0 (omega arith), getD-drop, add-zero)
+first-word board from at = let b = sizes board in rw (getD-take (formatOf board .address) (drop at from) 0 0 (omega arith), getD-drop, add-zero)
 
 -- ---- the item that passes
 

@@ -23,7 +23,7 @@ use Rattle.index.specs.declared.Known.{Known}
 use Rattle.index.specs.Kept.{before}
 use Rattle.index.specs.Known.{IsKnown}
 use Rattle.index.proofs.Reading.{known-session}
-use Rattle.lookup.specs.Search.{addressOn, addressed}
+use Rattle.lookup.specs.Search.{addressIn, addressed}
 
 module _ (board : List ℕ) (n : ℕ) (item : Item) (same : item ≡ itemOf board (item .place)) where
   abbrev h : History
@@ -45,9 +45,9 @@ module _ (board : List ℕ) (n : ℕ) (item : Item) (same : item ≡ itemOf boar
       omega (arith, parent-genesis h i (rw (← code-same) (eq-eqb (item .head .code) genesisType q)), length-history (formatOf board) board n)
 
   pub parent-sought : item .head .code ≢ genesisType → {m : Bool} {r : ℕ} → m ≡ leb (item .head .code) trackType
-      → r ≡ first (addressed m (addressOn board (item .parent))) h → r ≡ parentNumber h i
+      → r ≡ first (addressed m (addressIn board board (item .parent))) h → r ≡ parentNumber h i
   parent-sought q {m} {r} e f =
-      let words : addressOn board (item .parent) ≡ i .parent = ap (λ (x : Item). addressOn board (x .parent)) same ∙ parent-is board (item .place) in
+      let words : addressIn board board (item .parent) ≡ i .parent = ap (λ (x : Item). addressIn board board (x .parent)) same ∙ parent-is board (item .place) in
       f ∙ rw (e, code-same, words, parent-first h i (later q))
 
   -- ---- the session, from the parent's number

@@ -24,7 +24,7 @@ use Rattle.index.specs.Kept.{before, Kept}
 use Rattle.index.specs.Known.{IsKnown}
 use Rattle.index.proofs.Counts.{hasWords, entry-words}
 use Rattle.index.proofs.Reading.{known-item, known-code, known-main, known-parent, known-session, known-address, known-word}
-use Rattle.lookup.specs.Search.{entryFrom, addressOn, addressed}
+use Rattle.lookup.specs.Search.{entryFrom, addressIn, addressed}
 
 -- the view of an entry stands for it
 pub from-known : {board : List ℕ} {e : Entry} {c : Known} → IsKnown board e c → entryFrom board c ≡ e
@@ -73,10 +73,10 @@ module _ {board : List ℕ} {e : Entry} {c : Known} (is : IsKnown board e c) whe
   pub known-width : c .item .end - c .item .address ≡ formatOf board .address
   known-width = address-width board (e .place) (known-item is)
 
-  pub addressed-same : (m : Bool) (at : ℕ) {r : Bool} → not (Bool·beq (eqb (c .item .head .kind) mainKind) m) ≡ false
+  pub addressed-same : (m : Bool) (from : List ℕ) (at : ℕ) {r : Bool} → not (Bool·beq (eqb (c .item .head .kind) mainKind) m) ≡ false
       → let width = c .item .end - c .item .address in
-      r ≡ sameWords (part (c .item .address) width board) (part at width board) → r ≡ addressed m (addressOn board at) e
-  addressed-same m at q s = s ∙ rw (known-width, ← known-main is, not-false (Bool·beq (eqb (c .item .head .kind) mainKind) m) q, known-address is)
+      r ≡ sameWords (part (c .item .address) width board) (part at width from) → r ≡ addressed m (addressIn board from at) e
+  addressed-same m from at q s = s ∙ rw (known-width, ← known-main is, not-false (Bool·beq (eqb (c .item .head .kind) mainKind) m) q, known-address is)
 
   pub session-other : (voter : ℕ) → c .item .head .code ≢ sessionType → false ≡ sessionOf voter e
   session-other voter n = rw (← known-code is, ne-eqb (c .item .head .code) sessionType n)

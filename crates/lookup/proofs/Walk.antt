@@ -20,7 +20,7 @@ use Rattle.chains.specs.Chain.{buckets, chain, lastIn}
 use Rattle.chains.proofs.Laws.{lastIn-here, lastIn-past, lastIn-le, lastIn-self, lastIn-own, chain-last, chain-behind}
 use Rattle.index.specs.Kept.{before, itemAfter}
 use Rattle.index.proofs.Items.{entry-made}
-use Rattle.lookup.specs.Search.{addressOn, addressed}
+use Rattle.lookup.specs.Search.{addressIn, addressed}
 use Rattle.lookup.specs.Buckets.{ofAddress, ofVoter, byAddress, byVoter}
 use Rattle.lookup.proofs.Steps.{upTo, to-all, last-step, first-step, first-ends}
 use Rattle.lookup.proofs.Buckets.{first-word}
@@ -147,13 +147,13 @@ module _ (board : List ℕ) (n : ℕ) (p : Entry → Bool) where
 
 -- ---- an item that passes is in the bucket
 
-pub addressed-only : (board : List ℕ) (n : ℕ) (m : Bool) (at k : ℕ) → 1 ≤ k → k ≤ n
-    → addressed m (addressOn board at) (entry (before board n) k) ≡ true → byAddress board k ≡ getD board at 0 % buckets
+pub addressed-only : (board from : List ℕ) (n : ℕ) (m : Bool) (at k : ℕ) → 1 ≤ k → k ≤ n
+    → addressed m (addressIn board from at) (entry (before board n) k) ≡ true → byAddress board k ≡ getD from at 0 % buckets
 unfolding byAddress entryOf
-addressed-only board n m at zero s l q = absurd (not-suc-le-zero s)
-addressed-only board n m at (suc k) s l q =
+addressed-only board from n m at zero s l q = absurd (not-suc-le-zero s)
+addressed-only board from n m at (suc k) s l q =
     let same = simp facts at (passes (rw (entry-made board n k l) at q)) .1 in
-    ap ofAddress (same-iff (itemAfter board k .address) (addressOn board at) .0 same) ∙ ap (λ (w : ℕ). w % buckets) (first-word board at)
+    ap ofAddress (same-iff (itemAfter board k .address) (addressIn board from at) .0 same) ∙ ap (λ (w : ℕ). w % buckets) (first-word board from at)
 
 pub session-only : (board : List ℕ) (n voter k : ℕ) → 1 ≤ k → k ≤ n → sessionOf voter (entry (before board n) k) ≡ true → byVoter board k ≡ ofVoter voter
 unfolding byVoter entryOf if_then_else_

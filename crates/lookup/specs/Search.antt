@@ -13,9 +13,12 @@ use Rattle.index.specs.declared.Known.{Known}
 abbrev pub entryFrom : List ℕ → Known → Entry
 entryFrom board c = record { place = c .item .place; item = itemAt (formatOf board) board (c .item .place); parent = c .parent; session = c .session }
 
--- the words of an address that stands at a place of a board
+-- an address of a board's width that stands at a place of some words, and of the board itself
+abbrev pub addressIn : (board from : List ℕ) → ℕ → List ℕ
+addressIn board from at = part at (formatOf board .address) from
+
 abbrev pub addressOn : List ℕ → ℕ → List ℕ
-addressOn board at = part at (formatOf board .address) board
+addressOn board = addressIn board board
 
 -- a main item, or a hidden one, with that address
 abbrev pub addressed : Bool → List ℕ → Entry → Bool

@@ -1,17 +1,17 @@
 -- Receipts: where they are refused, what is written for them, and that each answer is the main number of the first cast with the receipt's
 -- address and signature, in the board cut behind any item too. Paper: request (ii). Assumes nothing.
-use Prim.Native.Nat.{ℕ, zero, suc, _+_, _-_, _*_, _/_, _%_, _≤_, _<_}
-use native.Mathlib.Nat.{add-zero, add-assoc, mul-zero, mul-comm, suc-mul, one-mul, mul-mod-left, mul-div-cancel, mul-le-mul-right, div-add-mod'}
+use Prim.Native.Nat.{ℕ, suc, _+_, _-_, _*_, _≤_, _<_}
+use native.Mathlib.Nat.{add-zero, add-assoc, mul-zero, mul-comm, suc-mul, one-mul, mul-le-mul-right}
 use native.Mathlib.Decide.{decLt}
 use native.Mathlib.Omega.{arith}
 use mathlib.Core.Path.{_≡_, refl, sym, ap, ap₂, subst, _∙_}
 use mathlib.Core.Logic.{_≢_, _↔_, Iff·trans, Iff·and, by-cases}
-use mathlib.Core.Bool.{Bool, not, _&&_, _||_}
-use mathlib.Core.List.{List, [], _∷_, _++_, map}
-use lib.Arith.{lt→nleb, le→nltb}
-use lib.ListN.{length, getD, take, length-append, length-map, List·getD-map, List·getD-eq-default}
+use mathlib.Core.Bool.{not, _&&_}
+use mathlib.Core.List.{List, [], _∷_, _++_}
+use lib.Arith.{lt→nleb}
+use lib.ListN.{length, getD, take, length-append, length-map, List·getD-eq-default}
 use lib.Seq.{take-append-seam}
-use lib.Dec.{T, T-not, not-T, eqb, leb, ltb, eqb→eq, nltb→le, le→leb}
+use lib.Dec.{T, eqb, leb, le→leb}
 use Rattle.model.specs.Lists.{if_then_else_, part, any, count, tabulate}
 use Rattle.model.specs.Words.{sameWords}
 use Rattle.model.specs.Codes.{castType}
@@ -19,47 +19,27 @@ use Rattle.model.specs.Refusal.{shortTable, badReceipts}
 use Rattle.model.specs.Format.{Format, Hashes}
 use Rattle.model.specs.Traits.{formatOf}
 use Rattle.model.specs.Item.{Item, code}
-use Rattle.model.specs.History.{History, Entry, entry, first, typed, main, mainItem, mainItems, mainNumber}
+use Rattle.model.specs.History.{History, Entry, first, typed, main, mainItem, mainItems, mainNumber}
 use Rattle.model.specs.Roll.{Eligibility}
 use Rattle.model.specs.Audit.{Outcome, unread, refused, accepted, audit, itemLimit}
 use Rattle.model.specs.Report.{noNumber, numberWord, filled}
 use Rattle.model.specs.Sound.{Passed, Sound}
 use Rattle.model.specs.Cut.{cutBoard, cutVerdicts}
 use Rattle.model.specs.Receipts.{Receipt, receiptLimit, receiptSize, receiptCount, receiptAt, matches, castOf, receiptAnswer, isBadReceipts, receiptsAudit, receiptAnswers, answersAfter}
-use Rattle.model.proofs.Tests.{if-then, neither, not-not, and-iff, eqb-iff, same-iff, eq→eqb}
-use Rattle.model.proofs.Lists.{Every, every-map, every-take, count-few, count-keep, map-keep, length-tabulate, getD-tabulate}
+use Rattle.model.proofs.Tests.{if-then, and-iff, eqb-iff, same-iff}
+use Rattle.model.proofs.Lists.{Every, every-map, every-take, count-few, length-tabulate, getD-tabulate}
 use Rattle.model.proofs.Parts.{length-part, part-add, part-part}
-use Rattle.model.proofs.Numbers.{entry-snoc, every-entry, main-next, OnlyMain, first-main, first-bound, first-is, first-none}
+use Rattle.model.proofs.Numbers.{entry-snoc, every-entry, main-next, OnlyMain, first-bound}
 use Rattle.model.proofs.Entries.{typed-only, orderly}
 use Rattle.model.proofs.Acceptance.{not-unread, unread-number}
 use Rattle.model.proofs.Tables.{number-some, number-none, number-used, length-filled, getD-filled}
-use Rattle.model.proofs.Above.{checked-none, by-checked, checked-passes, checked-fails, buffer-made}
+use Rattle.model.proofs.Above.{checked-none, by-checked, checked-passes, checked-fails, parts-count, parts-good, refuses-bad, buffer-made}
 use Rattle.model.proofs.Traits.{sizes}
 use Rattle.model.proofs.Receipts.{answer-next}
 use Rattle.model.proofs.Cut.{cut-audited}
+use Rattle.model.proofs.MainItems.{only, itemsAlone, mains-count, among-mains, alone-is, alone-none}
 
 -- ---- whole receipts
-
--- the length of n parts of z words, and how many parts a length is
-module _ (l z : ℕ) (some : 0 < z) where
-  abbrev bad : Bool
-  bad = not (eqb (l % z) 0) || ltb receiptLimit (l / z)
-
-  parts : (n : ℕ) → l ≡ n * z → l / z ≡ n
-  parts n e = ap (_/ z) e ∙ mul-div-cancel n some
-
-  whole-good : (n : ℕ) → l ≡ n * z → n ≤ receiptLimit → T (not bad)
-  whole-good n e few =
-      neither (not (eqb (l % z) 0)) (ltb receiptLimit (l / z)) .1 (
-        not-not (eqb (l % z) 0) .1 (eq→eqb (l % z) 0 (ap (_% z) e ∙ mul-mod-left n z)),
-        le→nltb receiptLimit (l / z) (subst (_≤ receiptLimit) (sym (parts n e)) few),
-      )
-
-  good-whole : T (not bad) → (l ≡ l / z * z) × (l / z ≤ receiptLimit)
-  good-whole t =
-      let (rest, few) = neither (not (eqb (l % z) 0)) (ltb receiptLimit (l / z)) .0 t in
-      let none = eqb→eq (l % z) 0 (not-not (eqb (l % z) 0) .0 rest) in
-      (sym (div-add-mod' l z) ∙ ap (l / z * z +_) none ∙ add-zero (l / z * z), nltb→le receiptLimit (l / z) few)
 
 -- a board's receipts have words
 pub receipt-some : (s : Hashes) (ws : List ℕ) → 0 < receiptSize (formatOf s ws)
@@ -111,31 +91,22 @@ module _ (f : Format) (some : 0 < receiptSize f) (ws vs roll rs : List ℕ) (ind
   AreReceipts n = (length rs ≡ n * receiptSize f) × (n ≤ receiptLimit)
 
   count-is : (n : ℕ) → AreReceipts n → receiptCount f rs ≡ n
-  count-is n whole = parts (length rs) (receiptSize f) some n (whole .0)
+  count-is n whole = parts-count (receiptSize f) some rs n (whole .0)
 
   are-good : (n : ℕ) → AreReceipts n → T (not (isBadReceipts f rs))
-  are-good n whole = whole-good (length rs) (receiptSize f) some n (whole .0) (whole .1)
+  are-good = parts-good (receiptSize f) some rs receiptLimit
 
   -- 22 is no number of the audit
   not-audited : audited ≡ unread badReceipts → ⊥
   unfolding any
   not-audited e = unread-number f ws vs roll index ballots badReceipts e
 
-  refuses-bad : answering ≡ unread badReceipts → T (not (not (isBadReceipts f rs)))
-  unfolding receiptsAudit
-  refuses-bad =
-      by-checked audited 21 (not (isBadReceipts f rs)) _ (λ o. o ≡ unread badReceipts → T (not (not (isBadReceipts f rs))))
-      (λ t. by-checked audited 1 (leb (receiptCount f rs) answers) [] (λ o. o ≡ unread badReceipts → T (not (not (isBadReceipts f rs))))
-      (λ u e. absurd (not-audited (sym (checked-none audited) ∙ e))) (λ u e. absurd (omega (arith, ap numberOf e))))
-      (λ t e. t)
-
   pub bad-receipts : (answering ≡ unread badReceipts) ↔ ((n : ℕ) → AreReceipts n → ⊥)
   unfolding receiptsAudit
-  bad-receipts = (
-    λ e n whole. T-not (not (isBadReceipts f rs)) (refuses-bad e) (are-good n whole),
-    λ none. checked-fails audited 21 (not (isBadReceipts f rs)) _
-        (not-T (not (isBadReceipts f rs)) (λ t. none (receiptCount f rs) (good-whole (length rs) (receiptSize f) some t))),
-  )
+  bad-receipts =
+      refuses-bad (receiptSize f) some rs receiptLimit audited 21 _
+      (by-checked audited 1 (leb (receiptCount f rs) answers) [] (λ o. o ≡ unread badReceipts → ⊥)
+      (λ t e. not-audited (sym (checked-none audited) ∙ e)) (λ t e. omega (arith, ap numberOf e)))
 
   pub short-answers : (n : ℕ) → AreReceipts n → answers < n → answering ≡ unread shortTable
   unfolding receiptsAudit
@@ -180,19 +151,10 @@ pub answers-written : (f : Format) → 0 < receiptSize f → (ws vs roll rs : Li
     o ≡ accepted h → (n : ℕ) → (length rs ≡ n * receiptSize f) × (n ≤ receiptLimit) → let after = answersAfter f rs o answers in
     (length after ≡ length answers) × ((k : ℕ) → k < n → getD after k 0 ≡ receiptAnswer (receiptAt f rs k) h) × ((k : ℕ) → n ≤ k → getD after k 0 ≡ 0)
 answers-written f some ws vs roll rs index ballots answers h a n whole =
-    let number = parts (length rs) (receiptSize f) some n (whole .0) in
+    let number = parts-count (receiptSize f) some rs n (whole .0) in
     filled-answers f rs h n number answers _ (written f rs h n number _ answers a) (answers-fit f some ws vs roll rs index ballots (length answers) h a n whole)
 
 -- ---- the first cast, by its main number
-
--- an entry that is only its item
-abbrev only : Item → Entry
-only i = record { place = 0; item = i; parent = 0; session = 0 }
-
-entry-only : (is : List Item) (m : ℕ) → entry (map only is) m ≡ only (mainItem is m)
-unfolding entry mainItem
-entry-only is zero = refl
-entry-only is (suc m) = List·getD-map only is m _
 
 -- the answer, of what is found
 found-word : (n m : ℕ) {X : Type 0} → m ≢ noNumber → (1 ≤ m → (n ≡ m) ↔ X) → (X → 1 ≤ m) → (numberWord n ≡ m) ↔ X
@@ -221,45 +183,41 @@ module _ (r : Receipt) where
       (1 ≤ m) × (m ≤ count main h) × (code i ≡ castType) × (i .address ≡ r .address) × (i .signature ≡ r .signature)
 
   module _ {f : Format} {ws vs roll : List ℕ} {h : History} (s : Sound f ws vs roll h) where
-    abbrev items : History
-    items = map only (mainItems h)
-
-    length-items : length items ≡ count main h
-    length-items = length-map (mainItems h) only ∙ count-keep main (λ (e : Entry). e .item) h
+    abbrev found : ℕ
+    found = first (castOf r) (itemsAlone (mainItems h))
 
     -- the first cast is sought among the main items
-    among-mains : receiptAnswer r h ≡ numberWord (first (castOf r) items)
+    answer-alone : receiptAnswer r h ≡ numberWord found
     unfolding receiptAnswer
-    among-mains =
+    answer-alone =
         let casts : OnlyMain (castOf r) h =
         every-map _ _ (λ e g t. g (and-iff (typed castType e) (matches r (e .item)) .0 t .0)) h (typed-only (orderly (s .passed)) castType (omega arith)) in
-        ap numberWord (first-main (castOf r) (λ e. only (e .item)) (λ e. refl) h casts
-        ∙ ap (first (castOf r)) (sym (map-keep main (λ (e : Entry). e .item) only h)))
+        ap numberWord (among-mains (castOf r) (λ e. refl) h casts)
 
-    told : (m : ℕ) → ((1 ≤ m) × (m ≤ length items) × T (castOf r (entry items m))) ↔ IsCastOf h m
-    told m =
-        subst (λ (e : Entry). ((1 ≤ m) × (m ≤ length items) × T (castOf r e)) ↔ IsCastOf h m) (sym (entry-only (mainItems h) m)) (
-          λ (one, all, t). let (kind, (address, signature)) = cast-is (mainItem (mainItems h) m) .0 t in
-              (one, subst (m ≤_) length-items all, kind, address, signature),
-          λ (one, all, kind, address, signature).
-              (one, subst (m ≤_) (sym length-items) all, cast-is (mainItem (mainItems h) m) .1 (kind, (address, signature))),
-        )
+    told : (m : ℕ) → ((1 ≤ m) × (m ≤ length (mainItems h)) × T (castOf r (only (mainItem (mainItems h) m)))) ↔ IsCastOf h m
+    told m = (
+      λ (one, all, t). let (kind, (address, signature)) = cast-is (mainItem (mainItems h) m) .0 t in
+          (one, subst (m ≤_) (mains-count h) all, kind, address, signature),
+      λ (one, all, kind, address, signature).
+          (one, subst (m ≤_) (sym (mains-count h)) all, cast-is (mainItem (mainItems h) m) .1 (kind, (address, signature))),
+    )
 
     pub receipt-found : (m : ℕ) → m ≢ noNumber → (receiptAnswer r h ≡ m) ↔ (IsCastOf h m × ((j : ℕ) → j < m → IsCastOf h j → ⊥))
     receipt-found m ne =
-        subst (λ (a : ℕ). (a ≡ m) ↔ (IsCastOf h m × ((j : ℕ) → j < m → IsCastOf h j → ⊥))) (sym among-mains)
-        (found-word (first (castOf r) items) m ne (first-is (castOf r) items (IsCastOf h) told m) (λ x. x .0 .0))
+        subst (λ (a : ℕ). (a ≡ m) ↔ (IsCastOf h m × ((j : ℕ) → j < m → IsCastOf h j → ⊥))) (sym answer-alone)
+        (found-word found m ne (alone-is (castOf r) (mainItems h) (IsCastOf h) told m) (λ x. x .0 .0))
 
     pub receipt-none : (receiptAnswer r h ≡ noNumber) ↔ ((m : ℕ) → IsCastOf h m → ⊥)
     receipt-none =
-        let few : first (castOf r) items ≤ itemLimit = omega (arith, first-bound (castOf r) items, length-items, count-few main h, s .few) in
-        subst (λ (a : ℕ). (a ≡ noNumber) ↔ ((m : ℕ) → IsCastOf h m → ⊥)) (sym among-mains)
-        (Iff·trans (none-word (first (castOf r) items) few) (first-none (castOf r) items (IsCastOf h) told))
+        let few : found ≤ itemLimit =
+        omega (arith, first-bound (castOf r) (itemsAlone (mainItems h)), length-map (mainItems h) only, mains-count h, count-few main h, s .few) in
+        subst (λ (a : ℕ). (a ≡ noNumber) ↔ ((m : ℕ) → IsCastOf h m → ⊥)) (sym answer-alone)
+        (Iff·trans (none-word found few) (alone-none (castOf r) (mainItems h) (IsCastOf h) told))
 
   -- so the answer rests on the main items
   pub receipt-alone : {f : Format} {ws vs roll ws′ vs′ roll′ : List ℕ} {h h′ : History} → Sound f ws vs roll h → Sound f ws′ vs′ roll′ h′
       → mainItems h ≡ mainItems h′ → receiptAnswer r h ≡ receiptAnswer r h′
-  receipt-alone s t e = among-mains s ∙ ap (λ (is : List Item). numberWord (first (castOf r) (map only is))) e ∙ sym (among-mains t)
+  receipt-alone s t e = answer-alone s ∙ ap (λ (is : List Item). numberWord (first (castOf r) (itemsAlone is))) e ∙ sym (answer-alone t)
 
 -- ---- one item more
 
@@ -310,8 +268,8 @@ module _ (f : Format) (some : 0 < receiptSize f) (us ts roll : List ℕ) (index 
   same-answer : (w : ℕ) → answersAfter f alone (accepted g) (w ∷ []) ≡ getD (receiptAnswers f rs g) j 0 ∷ []
   unfolding filled tabulate receiptAnswers
   same-answer w =
-      let number = parts (length alone) (receiptSize f) some 1 one-receipt in
-      let all = parts (length rs) (receiptSize f) some n whole in
+      let number = parts-count (receiptSize f) some alone 1 one-receipt in
+      let all = parts-count (receiptSize f) some rs n whole in
       written f alone g 1 number (accepted g) (w ∷ []) refl
       ∙ ap (_∷ []) (ap (λ (r : Receipt). receiptAnswer r g) (receipt-itself f rs j)
       ∙ sym (getD-tabulate (λ k. receiptAnswer (receiptAt f rs k) g) (receiptCount f rs) j 0 (subst (j <_) (sym all) l)))

@@ -1,10 +1,10 @@
 -- Receipts that voters hold, many answered at once: for each the main number of its cast. The paper's tray is the run of words of the receipts,
 -- its sheet the answers buffer. Paper: request (ii); for the widths request (ix). Assumes nothing.
-use Prim.Native.Nat.{ℕ, _+_, _*_, _/_, _%_}
-use mathlib.Core.Bool.{Bool, not, _&&_, _||_}
+use Prim.Native.Nat.{ℕ, _+_, _*_, _/_}
+use mathlib.Core.Bool.{Bool, not, _&&_}
 use mathlib.Core.List.{List, [], _∷_}
 use lib.ListN.{length}
-use lib.Dec.{eqb, leb, ltb}
+use lib.Dec.{leb}
 use Rattle.model.specs.Lists.{part, tabulate}
 use Rattle.model.specs.Words.{sameWords}
 use Rattle.model.specs.Codes.{castType}
@@ -14,7 +14,7 @@ use Rattle.model.specs.Item.{Item}
 use Rattle.model.specs.History.{History, Entry, typed, first, mainNumber}
 use Rattle.model.specs.Audit.{Outcome, _unless_, audit}
 use Rattle.model.specs.Report.{numberWord, filled}
-use Rattle.model.specs.Above.{checkedFirst, bufferAfter}
+use Rattle.model.specs.Above.{checkedFirst, isBadRun, bufferAfter}
 
 -- "at most 512"
 abbrev pub receiptLimit : ℕ
@@ -55,7 +55,7 @@ receiptAnswer r h = numberWord (mainNumber h (first (castOf r) h))
 
 -- 22: "not whole receipts, or too many"
 abbrev pub isBadReceipts : Format → List ℕ → Bool
-isBadReceipts f rs = not (eqb (length rs % receiptSize f) 0) || ltb receiptLimit (receiptCount f rs)
+isBadReceipts f = isBadRun (receiptSize f) receiptLimit
 
 -- with so many words in the index table, in the ballot table and in the answers buffer: "22 .. comes before the audit, and 2 for a sheet with
 -- fewer words than receipts comes right after 22; these two change no sheet, and otherwise the answer is the audit's"

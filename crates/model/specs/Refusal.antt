@@ -93,6 +93,10 @@ notOnRoll = 21
 abbrev pub badReceipts : ℕ
 badReceipts = 22
 
+-- 23 bad notes: "not whole, or too many"; it "comes before the audit" (request (vi))
+abbrev pub badNotes : ℕ
+badNotes = 23
+
 -- ---- which of them an audit gives
 
 -- before anything is read or written

@@ -98,7 +98,7 @@ module _ {board : List ℕ} {c : Known} (is : IsKnown board (entryFrom board c) 
       let sameAddress = sameWords (e .item .address) (r .address) in
       let both = and-iff (typed castType e) (matches r (e .item)) .0 (passes q) .1 in
       let same = same-iff (e .item .address) (r .address) .0 (and-iff sameAddress (sameWords (e .item .signature) (r .signature)) .0 both .0) in
-      ap ofAddress (sym same ∙ sym (known-address is)) ∙ ap (λ (w : ℕ). w % buckets) (first-word board (c .item .address))
+      ap ofAddress (sym same ∙ sym (known-address is)) ∙ ap (λ (w : ℕ). w % buckets) (first-word board board (c .item .address))
 
   not-in-bucket : (k : ℕ) → byReceipt board receipts (suc k) ≢ castBucket → isCast board receipts (entryFrom board c) k ≡ false
   not-in-bucket k n = by-test (isCast board receipts (entryFrom board c) k) (λ q. absurd (n (in-bucket k q))) (λ q. q)

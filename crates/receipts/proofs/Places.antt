@@ -1,20 +1,18 @@
--- The words of receipts by their places, how many receipts there are, and whether an item has a receipt's words. Assumes nothing.
-use Prim.Native.Nat.{ℕ, suc, _+_, _-_, _*_, _%_, _≤_, _<_}
+-- The words of receipts by their places, and whether an item has a receipt's words. Assumes nothing.
+use Prim.Native.Nat.{ℕ, suc, _+_, _-_, _*_, _≤_, _<_}
 use native.Mathlib.Nat.{add-zero, mul-suc, mul-comm, mul-le-mul, mul-le-mul-left}
 use native.Mathlib.Omega.{arith}
 use mathlib.Core.Path.{_≡_, sym, ap, _∙_}
-use mathlib.Core.Logic.{_≢_}
 use mathlib.Core.Bool.{Bool, true, false, not}
 use mathlib.Core.List.{List}
 use lib.ListN.{length, getD, drop}
 use lib.Seq.{getD-drop, getD-take}
-use lib.Dec.{ltb}
-use borrow.Author.Tests.{eq-eqb, ne-eqb, not-true, not-false}
+use borrow.Author.Tests.{not-true, not-false}
 use Rattle.model.specs.Lists.{part}
 use Rattle.model.specs.Words.{sameWords}
 use Rattle.model.specs.Item as model
 use Rattle.model.specs.History.{Entry}
-use Rattle.model.specs.Receipts.{receiptLimit, receiptSize, receiptCount, receiptAt, matches, isBadReceipts}
+use Rattle.model.specs.Receipts.{receiptLimit, receiptSize, receiptCount, receiptAt, matches}
 use Rattle.format.specs.declared.item.Item.{Item}
 use Rattle.format.specs.Format.{formatOf}
 use Rattle.format.specs.Layout.{itemOf}
@@ -25,18 +23,9 @@ use Rattle.index.specs.Known.{IsKnown}
 use Rattle.index.proofs.Reading.{known-item, known-address}
 use Rattle.receipts.specs.Answering.{Whole}
 
--- ---- how many, and whether they are bad
-
+-- a receipt has words
 pub size-some : (board : List ℕ) {n : ℕ} → n ≡ receiptSize (formatOf board) → 1 ≤ n
 size-some board e = let b = sizes board in omega arith
-
-module _ (board receipts : List ℕ) where
-  pub bad-parts : {n : ℕ} → n ≡ receiptSize (formatOf board) → length receipts % n ≢ 0 → true ≡ isBadReceipts (formatOf board) receipts
-  bad-parts e q = rw (← e, ne-eqb _ 0 q)
-
-  pub bad-many : {n : ℕ} → n ≡ receiptSize (formatOf board) → length receipts % n ≡ 0 → {m : ℕ} → m ≡ receiptCount (formatOf board) receipts
-      → ltb receiptLimit m ≡ isBadReceipts (formatOf board) receipts
-  bad-many e q c = rw (← e, eq-eqb _ 0 q, c, ← e)
 
 -- ---- where receipt k stands
 

@@ -48,10 +48,7 @@ pub fn count(board: &[u32], receipts: &[u32]) -> usize
 pub fn is_bad(board: &[u32], receipts: &[u32]) -> bool
     ensures { λ r. ⌜ r ≡ isBadReceipts (formatOf (now (board .entry))) (now (receipts .entry)) ⌝ }
 {
-    if receipts.len() % size(board) != 0 {
-        return true;
-    }
-    Receipt::LIMIT < count(board, receipts)
+    words::is_bad_run(receipts, size(board), Receipt::LIMIT)
 }
 
 // Puts every receipt into the bucket of its address.

@@ -3,7 +3,7 @@ use Prim.Native.Nat.{_≤_}
 use native.Mathlib.Omega.{arith}
 use Rattle.refusal.specs.Number.{numberOf}
 use Rattle.refusal.specs.declared.Refusal.{Refusal}
-use Rattle.refusal.specs.declared.Refusal.the-variants.{TooLarge, ShortTable, EmptyBoard, Truncated, UnknownType, WrongCount, WrongAddress, WrongPrevious, WrongParent, EarlierTime, OutOfPhase, Duplicate, BadContent, NoVerdict, WrongKey, BadSignature, BadClosing, NoSuchItem, BadRoll, NotOnRoll, BadReceipts}
+use Rattle.refusal.specs.declared.Refusal.the-variants.{TooLarge, ShortTable, EmptyBoard, Truncated, UnknownType, WrongCount, WrongAddress, WrongPrevious, WrongParent, EarlierTime, OutOfPhase, Duplicate, BadContent, NoVerdict, WrongKey, BadSignature, BadClosing, NoSuchItem, BadRoll, NotOnRoll, BadReceipts, BadNotes}
 
 pub number-some : (x : Refusal) → 1 ≤ numberOf x
 number-some TooLarge = omega arith
@@ -27,3 +27,4 @@ number-some NoSuchItem = omega arith
 number-some BadRoll = omega arith
 number-some NotOnRoll = omega arith
 number-some BadReceipts = omega arith
+number-some BadNotes = omega arith

@@ -2,7 +2,7 @@
 use Prim.Native.Nat.{ℕ}
 use Rattle.model.specs.Refusal as model
 use Rattle.refusal.specs.declared.Refusal.{Refusal}
-use Rattle.refusal.specs.declared.Refusal.the-variants.{TooLarge, ShortTable, EmptyBoard, Truncated, UnknownType, WrongCount, WrongAddress, WrongPrevious, WrongParent, EarlierTime, OutOfPhase, Duplicate, BadContent, NoVerdict, WrongKey, BadSignature, BadClosing, NoSuchItem, BadRoll, NotOnRoll, BadReceipts}
+use Rattle.refusal.specs.declared.Refusal.the-variants.{TooLarge, ShortTable, EmptyBoard, Truncated, UnknownType, WrongCount, WrongAddress, WrongPrevious, WrongParent, EarlierTime, OutOfPhase, Duplicate, BadContent, NoVerdict, WrongKey, BadSignature, BadClosing, NoSuchItem, BadRoll, NotOnRoll, BadReceipts, BadNotes}
 use Rattle.refusal.specs.declared.Finding.{Finding}
 use Rattle.refusal.specs.declared.Finding.the-variants.{Passes, Fails}
 
@@ -28,6 +28,7 @@ numberOf NoSuchItem = model.noSuchItem
 numberOf BadRoll = model.badRoll
 numberOf NotOnRoll = model.notOnRoll
 numberOf BadReceipts = model.badReceipts
+numberOf BadNotes = model.badNotes
 
 -- what the checks of an item find: nothing, or the first refusal that applies
 abbrev pub foundOf : Finding → ℕ

@@ -46,6 +46,8 @@ pub enum Refusal {
     NotOnRoll,
     // 22 bad tray
     BadReceipts,
+    // 23 bad notes
+    BadNotes,
 }
 
 // What the checks of an item find.
@@ -80,5 +82,6 @@ pub fn number_of(refusal: Refusal) -> u32
         Refusal::BadRoll => 20,
         Refusal::NotOnRoll => 21,
         Refusal::BadReceipts => 22,
+        Refusal::BadNotes => 23,
     }
 }

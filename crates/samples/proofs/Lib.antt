@@ -8,3 +8,4 @@ pub mod SampleWide
 pub mod SampleCurves
 pub mod SampleGrowth
 pub mod SampleReceipts
+pub mod SampleNotes

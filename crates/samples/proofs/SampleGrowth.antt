@@ -24,7 +24,7 @@ use Rattle.model.specs.Roll.{electors, rising, isBadRoll, onRoll, onRollOk}
 use Rattle.model.specs.Keys.{opening, keyOf, verdictOk, keyOk, signatureOk}
 use Rattle.model.specs.Audit.{accepted, firstUnmet, checks, faultIn, closing, judged, wordAt, items, audit, indexNeed, ballotNeed}
 use Rattle.model.specs.Report.{Report, filled, reportOf, numberWord, indexRowOf, indexRows, ballotRows, tableAfter}
-use Rattle.model.specs.Growth.{OneMore, Audited, audited, rowsRead, firstOf, newParent, newSession, closedIndex, newVote, newBallots, isNewVoter, follow}
+use Rattle.growth.specs.Growth.{OneMore, Audited, audited, rowsRead, firstOf, newParent, newSession, closedIndex, newVote, newBallots, isNewVoter, follow}
 use Rattle.samples.proofs.SampleElection.{toys, Signed, _by_, item, key, election, wordsIn, verdictsIn, boardOf, roll, ownAnswer, items-in, accepted-by}
 
 -- ---- the boards. Item n has the time n, as in the sample election

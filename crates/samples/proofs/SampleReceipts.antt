@@ -73,7 +73,7 @@ written-by ss rs h n a =
 
 -- ---- on today's curve, and on secp384r1: the cast is main item 14
 
-today : ownAnswer election ≡ accepted (history toy board 21)
+pub today : ownAnswer election ≡ accepted (history toy board 21)
 unfolding traitsOf setWords curveOf election wordsIn wordsOf hashed if_then_else_
 today = is-accepted
 
@@ -125,10 +125,10 @@ twice-accepted : items-in (ownAnswer twice) ≡ 15
 unfolding twice traitsOf setWords curveOf wordsIn verdictsIn wordsOf hashed if_then_else_ _⇒_ part any count keep latest onesIn kindOf codeOf countOf sameWords pair lowZero bit inWords size everyBelow allIn itemLength itemAt rowOf rowIn table fits entry firstFrom lastFrom mainItem endAfter endAddress parentNumber sessionNumber entryOf placeOf history voteOf counted contents addressOk previousOk parentOk timeOk rounds isOpen extractionOk openOk standingOk latestOk intentOk spoiledOk phaseOk onBoardOk underParentOk underBallotOk onlyOk contestsOk mayVote cryptogramsOk genesisOk traitsKnown contestOk thresholdOk authorizerOk roundOk sessionOk commitmentOk ballotOk fingerprintOk trusteesOk contentOk electors rising isBadRoll onRoll onRollOk opening keyOf verdictOk keyOk signatureOk firstUnmet checks faultIn closing judged wordAt items audit items-in
 twice-accepted = refl
 
-abbrev pastTwice : History
+abbrev pub pastTwice : History
 pastTwice = history (formatIn twice) (boardOf twice) 15
 
-both-casts : ownAnswer twice ≡ accepted pastTwice
+pub both-casts : ownAnswer twice ≡ accepted pastTwice
 both-casts = accepted-by (formatIn twice) (boardOf twice) (verdictsIn twice) roll indexNeed ballotNeed 15 _ refl twice-accepted (lit≤ tt)
 
 twice-length : length (receipt secp521r1 14) ≡ 1 * receiptSize (formatIn twice)
@@ -150,7 +150,7 @@ twice-written =
 
 -- ---- the cuts behind items 13 and 14 are the boards of the first items, and have these answers of their own
 
-cuts : (cutBoard (formatIn twice) (boardOf twice) 13 ≡ boardOf (take 13 twice)) × (cutVerdicts (verdictsIn twice) 13 ≡ verdictsIn (take 13 twice))
+pub cuts : (cutBoard (formatIn twice) (boardOf twice) 13 ≡ boardOf (take 13 twice)) × (cutVerdicts (verdictsIn twice) 13 ≡ verdictsIn (take 13 twice))
     × (cutBoard (formatIn twice) (boardOf twice) 14 ≡ boardOf (take 14 twice)) × (cutVerdicts (verdictsIn twice) 14 ≡ verdictsIn (take 14 twice))
 unfolding twice traitsOf traitsKnown setWords curveOf wordsIn verdictsIn wordsOf hashed if_then_else_ countOf itemLength placeOf cutBoard
 cuts = (refl, refl, refl, refl)

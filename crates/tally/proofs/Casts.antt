@@ -20,7 +20,7 @@ use Rattle.model.proofs.Tests.{passes, is-true}
 use Rattle.model.proofs.Table.{main-code}
 use Rattle.model.proofs.Lists.{count-append, count-take, count-few}
 use Rattle.model.proofs.Entries.{orderly, fine-parent, parent-some, parent-main, parent-bound, parent-session, session-up}
-use Rattle.model.proofs.Growth.{counted-other, counted-cast}
+use Rattle.model.proofs.OneItem.{counted-other, counted-cast}
 use Rattle.model.proofs.Unchecked.{length-history}
 use Rattle.model.proofs.Bound.{few-ballots}
 use Rattle.format.specs.Format.{formatOf}

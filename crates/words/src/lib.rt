@@ -6,6 +6,7 @@ ghost use lib.ListN.{length, drop, replicate};
 ghost use lib.Seq.{sets};
 ghost use Rattle.model.specs.Lists.{part};
 ghost use Rattle.model.specs.Words.{pair, sameWords};
+ghost use Rattle.model.specs.Above.{isBadRun};
 ghost use Rattle.model.specs.Program.{fromBytes};
 ghost use Rattle.words.specs.Bytes.{wordOf, wordAt, toBytes};
 
@@ -67,6 +68,17 @@ fn same_rest(a: &[u32], i: usize, b: &[u32], j: usize, n: usize) -> bool
         k += 1;
     }
     true
+}
+
+// Whether words are not whole parts of one size, or more parts than a limit.
+pub fn is_bad_run(w: &[u32], size: usize, limit: usize) -> bool
+    requires { ⌜ 1 ≤ size ⌝ }
+    ensures { λ r. ⌜ r ≡ isBadRun size limit (now (w .entry)) ⌝ }
+{
+    if w.len() % size != 0 {
+        return true;
+    }
+    limit < w.len() / size
 }
 
 // Writes words into a buffer, from a place on.

@@ -42,7 +42,7 @@ loop-holds : tie.Need-loop-holds Inv-loop μ-loop
 loop-holds c =
     let s = c .before .before .before .before .before .before in
     let at = walk-starts (byAddress-small _) (s .pre .0 .0 .few) (s .pre .0 .1) (address-small _) (c .before .of-address .ensures) (c .last .ensures) in
-    (at .most, at .self, first-starts _ _ _ _ _ (addressed-only _ _ (s .args .main) (s .args .at)) at)
+    (at .most, at .self, first-starts _ _ _ _ _ (addressed-only _ _ _ (s .args .main) (s .args .at)) at)
 
 -- within the loop there is an item
 some : (c : tie.In-loop Inv-loop μ-loop) → 1 ≤ c .before .loop .number
@@ -84,7 +84,7 @@ loop-again c =
     (λ y. found-new _ _ p k one (i .0) told (l .loop .found) (y .0 .taken) (y .1))
     (λ y. found-old _ _ p k one (i .0) told (l .loop .found) (y .0 .left) (y .1))
     (c .before .if1 .came) in
-    (omega (arith, at .most, i .0), at .self, i .2 ∙ first-goes _ _ p _ _ (addressed-only _ _ (a .main) (a .at)) k one (i .0) at (l .loop .found) found)
+    (omega (arith, at .most, i .0), at .self, i .2 ∙ first-goes _ _ p _ _ (addressed-only _ _ _ (a .main) (a .at)) k one (i .0) at (l .loop .found) found)
 
 returns : tie.Need-returns Inv-loop μ-loop
 returns c = let l = c .before in sym (l .loop .inv .2 ∙ first-done _ _ _ (l .loop .number) (l .loop .found) (c .loop-test .left))

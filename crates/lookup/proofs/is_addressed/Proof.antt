@@ -17,7 +17,7 @@ same-words-requires c κs =
     rw (known-width (s .pre .0)) (known-within (s .pre .0) .address, s .pre .1)
 
 returns-2 : tie.Need-returns-2
-returns-2 c = addressed-same (c .before .before .before .before .before .pre .0) _ _ (c .before .before .if1 .left) (c .same-words .ensures)
+returns-2 c = addressed-same (c .before .before .before .before .before .pre .0) _ _ _ (c .before .before .if1 .left) (c .same-words .ensures)
 
 pub is-addressed-spec : {M : Type 1} → statement M
 is-addressed-spec = tie.close (tie.spec returns sub-width same-words-requires returns-2)

@@ -7,24 +7,24 @@ use mathlib.Core.Logic.{_↔_}
 use mathlib.Core.List.{List, [], _∷_, _++_, append-assoc, append-nil}
 use lib.ListN.{length, getD, length-append}
 use lib.Seq.{take-append-seam}
 use Rattle.model.specs.Words.{countOf, closingWord}
 use Rattle.model.specs.Format.{Format, Hashes}
 use Rattle.model.specs.Traits.{formatOf}
 use Rattle.model.specs.Item.{Item, itemAt, itemLength, wordsOf}
 use Rattle.model.specs.History.{History, Entry, entryOf, placeOf, history}
 use Rattle.model.specs.Roll.{onRoll}
 use Rattle.model.specs.Audit.{wordLimit, itemLimit}
-use Rattle.model.specs.Growth.{OneMore}
+use Rattle.growth.specs.Growth.{OneMore}
 use Rattle.model.specs.Program.{leastItem}
 use Rattle.model.specs.Sound.{Shaped, Meets, Passed, next, Sound, Made}
 use Rattle.model.proofs.Parts.{append-cut}
 use Rattle.model.proofs.Numbers.{entry-snoc}
 use Rattle.model.proofs.Entries.{orderly}
 use Rattle.model.proofs.Keys.{verdict-words, length-verdicts}
 use Rattle.model.proofs.Parsing.{length-words, item-here}
 use Rattle.model.proofs.Unchecked.{passed-history, words-least}
 use Rattle.model.proofs.Beginnings.{made-at}
 use Rattle.model.proofs.Traits.{format-front}
 
 no-more : {A : Type 0} (xs : List A) → length xs ≡ 0 → xs ≡ []
 no-more [] e = refl

@@ -11,34 +11,34 @@ use lib.ListN.{length, getD, set, take, drop, length-append, length-set, List·g
 use lib.Seq.{sets, getD-set-other, take-append-seam, take-at}
 use lib.Dec.{T, eqb, leb, eqb→eq}
 use borrow.Author.Tests.{eqb-true, eqb-false, eq-eqb, ne-eqb, le-leb}
 use Rattle.model.specs.Lists.{if_then_else_, part, any, count, keep, has, distinct}
 use Rattle.model.specs.Words.{sameWords}
 use Rattle.model.specs.Codes.{ballotType}
 use Rattle.model.specs.Format.{Format, longestAddress}
 use Rattle.model.specs.Item.{Item, itemAt, code, isMain}
 use Rattle.model.specs.Types.{inSession}
 use Rattle.model.specs.History.{History, Entry, entry, itemNo, firstFrom, main, mainNumber, endAddress, parentOf, parentNumber, sessionNumber, castOrSpoil, entryOf, sessionVoter, sessionWeight}
 use Rattle.model.specs.Counted.{Vote, voteOf, counted, totalWeight, voters, without}
 use Rattle.model.specs.Roll.{Elector, electors, rising, names, onRoll, PairAt}
 use Rattle.model.specs.Audit.{accepted, itemLimit, indexRow, ballotRow, indexNeed, ballotNeed}
 use Rattle.model.specs.Report.{reportOf, mainsColumn, closerColumn, rowPlace, rowWord, noNumber, tableAfter, numberWord, rowWords, indexRowOf, indexRows, ballotRows, filled}
-use Rattle.model.specs.Growth.{OneMore, Audited, audited, rowsRead, firstOf, rowItem, newParent, newSession, newRow, closedIndex, newVote, newBallots, isNewVoter, follow}
+use Rattle.growth.specs.Growth.{OneMore, Audited, audited, rowsRead, firstOf, rowItem, newParent, newSession, newRow, closedIndex, newVote, newBallots, isNewVoter, follow}
 use Rattle.model.specs.Sound.{Meets, Sound}
 use Rattle.model.proofs.Tests.{by-test, passes, if-both, is-true, and-iff, not-iff, or-left, or-right}
 use Rattle.model.proofs.Lists.{Every, turns}
 use Rattle.model.proofs.Numbers.{entry-snoc, main-next}
 use Rattle.model.proofs.Table.{main-low}
 use Rattle.model.proofs.Entries.{parent-first, parent-bound, session-own, session-up, parent-some, parent-main, fine-parent, parent-session, genesis-first, orderly}
 use Rattle.model.proofs.Votes.{weight-append, counted-distinct}
 use Rattle.model.proofs.State.{count-snoc, endAddress-snoc}
 use Rattle.model.proofs.Unchecked.{entry-history, sound-history}
 use Rattle.model.proofs.Closers.{closer-new, closes-open, closer-closed}
 use Rattle.model.proofs.Tables.{length-indexRows, number-some, number-none, length-ballotRows, ballotRows-append, getD-filled, length-filled, filled-append, filled-set}
 use Rattle.model.proofs.Rows.{item-here, index-row, index-says}
 use Rattle.model.proofs.Roll.{one-right, good-rising, on-roll, session-eligible, counted-enrolled}
 use Rattle.model.proofs.Bound.{few-ballots}
-use Rattle.model.proofs.Growth.{counted-other, counted-cast, rows-other, rows-close}
-use Rattle.model.proofs.Longer.{made, longer, meets}
+use Rattle.model.proofs.OneItem.{counted-other, counted-cast, rows-other, rows-close}
+use Rattle.growth.proofs.Longer.{made, longer, meets}
 
 -- ---- the rows and the weight without a voter's row
 

@@ -1,0 +1,2 @@
+-- What a watcher's notes are, and what they say of a board.
+pub mod Notes
