@@ -1,8 +1,8 @@
 //! One call of an entry over the C interface: buffers of any length, full of junk and with guard words on
 //! both sides, go to an implementation, and rolls between pairs that can change the answer if they are read
-//! (`guard_pair`), and receipts between receipts; the reference is given the same words. The call can then be held to the
-//! reference word by word, to the boards alone, or to stored tables and answers. Which lengths are tried with which
-//! boards is told in `checks`, which receipts in `presented`.
+//! (`guard_pair`), receipts between receipts, and notes between notes that disagree; the reference is given the same
+//! words. The call can then be held to the reference word by word, to the boards alone, or to stored tables and answers.
+//! Which lengths are tried with which boards is told in `checks`, which receipts in `presented`, which notes in `noted`.
 
 use crate::ancestry::ancestry;
 use crate::answered::{broken_answers, check_answers, OF_ANSWERS};
@@ -10,19 +10,24 @@ use crate::audit::{audit, is_on_roll, Board};
 use crate::checks::Case;
 use crate::compare::{compare, Comparison, Tables};
 use crate::format::*;
+use crate::held::{broken_held, check_held, OF_NOTES};
 use crate::interface::*;
+use crate::notes::{notes, Agreement};
 use crate::random::Random;
 use crate::receipts::receipts;
 use crate::told::{broken, check_end, check_told, PROPERTIES};
 
 /// How often an entry gave each answer: by refusal number, or as follows.
-pub type Tally = [usize; 27];
+pub type Tally = [usize; 32];
 
 /// For comparing, and where an answer buffer is too short.
-pub const APART: usize = 23;
-pub const SAME: usize = 24;
-pub const COLLISION: usize = 25;
-pub const SHORT_ANSWER: usize = 26;
+pub const APART: usize = 24;
+pub const SAME: usize = 25;
+pub const COLLISION: usize = 26;
+pub const SHORT_ANSWER: usize = 27;
+/// For notes of an accepted board: all agree, or the first that disagrees does so for the first reason, the second or the
+/// third.
+pub const AGREE: usize = 28;
 
 /// A call of an entry: what it gave, and its buffers by name.
 pub struct Call<'a> {
@@ -34,12 +39,20 @@ pub struct Call<'a> {
     given: bool,
     expected: bool,
     buffers: Vec<(Buffer, &'static str)>,
-    /// The rolls and the receipts as they were passed, and by name.
+    /// The rolls, the receipts and the notes as they were passed, and by name.
     read: Vec<(Guarded<'a>, &'static str)>,
     /// In the order in which they are audited.
     boards: Vec<Passed<'a>>,
-    /// The receipts, where the entry answers them. The buffer of the answers is then the one behind the answer.
-    receipts: Option<&'a [u32]>,
+    asked: Asked<'a>,
+}
+
+/// What an entry is asked beside the board.
+#[derive(Clone, Copy)]
+enum Asked<'a> {
+    Nothing,
+    /// Receipts. The buffer of their answers is the one behind the answer.
+    Receipts(&'a [u32]),
+    Notes(&'a [u32]),
 }
 
 /// What an answer says of a board: the refusal, or 0, and the items, where it tells them.
@@ -81,13 +94,13 @@ impl Call<'_> {
             check_told(board.board.words, board.board.roll, index.given(), ballots.given())
                 .map_err(|message| format!("{}: {what}: {message}", self.entry))?;
         }
-        self.hold_answered().and_then(|()| self.hold_end())
+        self.hold_answered().and_then(|()| self.hold_held()).and_then(|()| self.hold_end())
     }
 
     /// Holds the answers to receipts to them and the board, if that is accepted.
     fn hold_answered(&self) -> Result<(), String> {
-        match (self.receipts, &self.boards[0]) {
-            (Some(receipts), Passed { board, accepted: true, .. }) => {
+        match (self.asked, &self.boards[0]) {
+            (Asked::Receipts(receipts), Passed { board, accepted: true, .. }) => {
                 check_answers(board.words, receipts, self.answers().given())
                     .map_err(|message| format!("{}: {message}", self.entry))
             }
@@ -110,12 +123,50 @@ impl Call<'_> {
 
     /// Which properties the answers to receipts break; none where there are no such answers.
     pub fn broken_answers(&self) -> [bool; OF_ANSWERS.len()] {
-        match (self.receipts, &self.boards[0]) {
-            (Some(receipts), Passed { board, accepted: true, .. }) => {
+        match (self.asked, &self.boards[0]) {
+            (Asked::Receipts(receipts), Passed { board, accepted: true, .. }) => {
                 broken_answers(board.words, receipts, self.answers().given()).expect("an answer to each receipt")
             }
             _ => [false; OF_ANSWERS.len()],
         }
+    }
+
+    /// Holds the answer to notes to them and the board; where that or the notes are refused, to zeros.
+    fn hold_held(&self) -> Result<(), String> {
+        let held = match (self.asked, &self.boards[0]) {
+            (Asked::Notes(_), _) if self.said.is_none() => Ok(()),
+            (Asked::Notes(notes), Passed { board, accepted: true, .. }) => {
+                check_held(board.words, notes, self.given_agreement())
+            }
+            (Asked::Notes(_), _) if self.given_agreement() != [0, 0] => {
+                Err(format!("the notes are not held, and the agreement is {:?}", self.given_agreement()))
+            }
+            _ => Ok(()),
+        };
+        held.map_err(|message| format!("{}: {message}", self.entry))
+    }
+
+    /// Holds the answer to notes to this one.
+    pub fn hold_agreement(&self, expected: Agreement) -> Result<(), String> {
+        match self.given_agreement() == agreement_words(expected) {
+            true => Ok(()),
+            false => Err(format!("{}: the agreement is {:?}, not {expected:?}", self.entry, self.given_agreement())),
+        }
+    }
+
+    /// Which properties the answer to notes breaks; none where they are not held.
+    pub fn broken_held(&self) -> [bool; OF_NOTES.len()] {
+        match (self.asked, &self.boards[0]) {
+            (Asked::Notes(notes), Passed { board, accepted: true, .. }) => {
+                broken_held(board.words, notes, self.given_agreement()).expect("whole notes")
+            }
+            _ => [false; OF_NOTES.len()],
+        }
+    }
+
+    /// The two words of the answer to notes that an audit's does not have.
+    pub fn given_agreement(&self) -> [u32; 2] {
+        [notes_answer::AGREEMENT, notes_answer::NOTE].map(|at| self.answer()[at])
     }
 
     /// The words of the answers to receipts.
@@ -223,7 +274,7 @@ pub fn call_audit<'a>(
     let boards = vec![Passed { board, accepted: said.is_some_and(|said| said.number == 0), index: 1 }];
     let buffers = vec![(answer, "answer"), (index, "index table"), (ballots, "ballot table")];
     let (entry, read) = ("audit".to_string(), vec![(roll, "roll")]);
-    Call { entry, has_end: true, said, given, expected: enough, buffers, read, boards, receipts: None }
+    Call { entry, has_end: true, said, given, expected: enough, buffers, read, boards, asked: Asked::Nothing }
 }
 
 /// Calls the comparison at some main number, and the reference beside it. The lengths are of the kept board's two
@@ -297,7 +348,7 @@ pub fn call_compare_at<'a>(
     ];
     let read = vec![(kept_roll, "kept roll"), (later_roll, "later roll")];
     let entry = format!("compare at main {number}");
-    Some(Call { entry, has_end: false, said, given, expected: enough, buffers, read, boards, receipts: None })
+    Some(Call { entry, has_end: false, said, given, expected: enough, buffers, read, boards, asked: Asked::Nothing })
 }
 
 /// Whether the kept board and the later one were accepted, by a comparison's answer.
@@ -371,7 +422,7 @@ pub fn call_ancestry<'a>(
     let buffers = vec![(answer, "answer"), (list, "list"), (index, "index table"), (ballots, "ballot table")];
     let read = vec![(roll, "roll")];
     let entry = format!("ancestry of item {number}");
-    Some(Call { entry, has_end: false, said, given, expected: enough, buffers, read, boards, receipts: None })
+    Some(Call { entry, has_end: false, said, given, expected: enough, buffers, read, boards, asked: Asked::Nothing })
 }
 
 /// Calls the entry for receipts, and the reference beside it. The lengths are of the index table, the ballot table, the
@@ -413,7 +464,55 @@ pub fn call_receipts<'a>(
     let buffers = vec![(answer, "answer"), (answers, "answers"), (index, "index table"), (ballots, "ballot table")];
     let read = vec![(roll, "roll"), (passed, "receipts")];
     let entry = format!("receipts, {} words", asked.len());
-    Some(Call { entry, has_end: true, said, given, expected: enough, buffers, read, boards, receipts: Some(asked) })
+    let asked = Asked::Receipts(asked);
+    Some(Call { entry, has_end: true, said, given, expected: enough, buffers, read, boards, asked })
+}
+
+/// Calls the entry for notes, and the reference beside it. The lengths are of the index table, the ballot table and the
+/// answer. None where the library has no such entry.
+pub fn call_notes<'a>(
+    with: &Interface,
+    board: Board<'a>,
+    asked: &'a [u32],
+    lengths: [usize; 3],
+    random: &mut Random,
+    tally: &mut Tally,
+) -> Option<Call<'a>> {
+    let entry = with.notes?;
+    let [mut index, mut ballots, mut answer] = lengths.map(|len| Buffer::new(len, random));
+    let enough = answer.len() >= NOTES_ANSWER;
+    if enough {
+        let tables = Tables { index: &mut index.reference, ballots: &mut ballots.reference };
+        let (report, agreement) = notes(board, asked, tables);
+        put(&mut answer, &notes_words(&report, agreement));
+        tally[match agreement {
+            Agreement::NotHeld => report.number as usize,
+            Agreement::AllAgree => AGREE,
+            Agreement::Disagrees(_, reason) => AGREE + 1 + reason as usize,
+        }] += 1;
+    } else {
+        tally[SHORT_ANSWER] += 1;
+    }
+    let (il, bl, al) = (index.len(), ballots.len(), answer.len());
+    let roll = Guarded::roll(board, random);
+    let passed = Guarded::notes(board, asked);
+    #[rustfmt::skip]
+    let given = unsafe {
+        entry(
+            board.words.as_ptr(), board.words.len(), board.verdicts.as_ptr(), board.verdicts.len(),
+            roll.pointer(), board.roll.len(), passed.pointer(), asked.len(),
+            index.pointer(), il, ballots.pointer(), bl, answer.pointer(), al)
+    };
+    let said = enough.then(|| Said {
+        number: answer.given()[audit_answer::NUMBER],
+        items: Some(answer.given()[audit_answer::ITEMS]),
+    });
+    let boards = vec![Passed { board, accepted: said.is_some_and(|said| said.number == 0), index: 1 }];
+    let buffers = vec![(answer, "answer"), (index, "index table"), (ballots, "ballot table")];
+    let read = vec![(roll, "roll"), (passed, "notes")];
+    let entry = format!("notes, {} words", asked.len());
+    let asked = Asked::Notes(asked);
+    Some(Call { entry, has_end: true, said, given, expected: enough, buffers, read, boards, asked })
 }
 
 // ---- the numbers that are asked for ----
@@ -451,7 +550,7 @@ fn main_count(words: &[u32]) -> usize {
     places(words).filter(|&place| kind(words[place]) == MAIN).count()
 }
 
-// ---- rolls and receipts ----
+// ---- rolls, receipts and notes ----
 
 /// Words as they are passed for reading: between guard words, or where the board itself has them.
 struct Guarded<'a> {
@@ -482,6 +581,18 @@ impl<'a> Guarded<'a> {
         let guard = board.words.get(..end).map_or(&[][..], |item| &item[item.len().saturating_sub(curve.receipt())..]);
         let inside = random.chance(50) && asked.len() == curve.receipt();
         Guarded::new(asked, guard, if inside { find(board.words, asked, 0) } else { None })
+    }
+
+    /// Notes, between two of the last main item with time 0: read as the note before the first, one is later than the
+    /// others; read as the one behind the last, it is too early. A note of the board's own words is passed where it stands.
+    fn notes(board: Board<'a>, asked: &[u32]) -> Guarded<'a> {
+        let curve = Layout::of(board.words).curve;
+        let last = places(board.words).filter(|&place| kind(board.words[place]) == MAIN).last();
+        let end = last.map_or(0, |place| place + count(board.words[place]) + curve.frame());
+        let address = end.checked_sub(curve.widths().address).and_then(|from| board.words.get(from..end));
+        let guard = address.map_or(Vec::new(), |address| [&[0, 0], address].concat());
+        let inside = asked.len() == curve.note();
+        Guarded::new(asked, &guard, if inside { find(board.words, asked, 0) } else { None })
     }
 
     fn pointer(&self) -> *const u32 {

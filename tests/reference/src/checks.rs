@@ -2,13 +2,14 @@
 //! implementation behind the C interface held against the reference word by word.
 
 use crate::audit::{audit, refused, Board, Report};
-use crate::calls::{call_ancestry, call_audit, call_compare, call_receipts, Tally};
+use crate::calls::{call_ancestry, call_audit, call_compare, call_notes, call_receipts, Tally};
 use crate::crowded::{all_contests, crowded_with, most_ballots, Fate};
 use crate::damage::{damage_plan, damage_roll, damage_words, no_board};
 use crate::faults::{bad_roll, faults, rank, spoil_more, Fault, Faulty};
 use crate::format::*;
 use crate::hidden::remove_hidden;
 use crate::interface::*;
+use crate::noted::Noted;
 use crate::plan::{Laid, Plan, Spec};
 use crate::presented::Presented;
 use crate::program::PROGRAM_WORDS;
@@ -19,7 +20,9 @@ use crate::sound::{any_shape, make, make_with, many_contests, Expected, Made, Sh
 use crate::stand_in::{ANSWER_NEED_BEFORE, BALLOTS_NEED_BEFORE, INDEX_NEED_BEFORE};
 use crate::told::{check_end, check_told, PROPERTIES};
 
+mod notes;
 mod receipts;
+pub use notes::*;
 pub use receipts::*;
 
 /// What is known of a board from its making.
@@ -804,18 +807,19 @@ fn answer_length(need: usize, random: &mut Random) -> usize {
 /// A check of one entry. Nothing is tallied where the library has no such entry.
 pub type Check = fn(&Interface, &Case, &mut Random, &mut Tally) -> Result<(), String>;
 
-/// How many entries there are: audit, compare, ancestry and receipts.
-pub const ENTRIES: usize = 4;
+/// How many entries there are: audit, compare, ancestry, receipts and notes.
+pub const ENTRIES: usize = 5;
 
 /// Every entry, with tables of any length.
-pub const ANY_LENGTH: [Check; ENTRIES] = [check_audit, check_compare, check_ancestry, check_receipts];
+pub const ANY_LENGTH: [Check; ENTRIES] = [check_audit, check_compare, check_ancestry, check_receipts, check_notes];
 
 /// Every entry, with tables of just the words they need, of too few, and of more.
 pub const FULL_LENGTHS: [Check; ENTRIES] =
-    [check_audit_full, check_compare_full, check_ancestry_full, check_receipts_full];
+    [check_audit_full, check_compare_full, check_ancestry_full, check_receipts_full, check_notes_full];
 
 /// Every entry, its tables held to the boards alone.
-pub const TOLD: [Check; ENTRIES] = [check_audit_told, check_compare_told, check_ancestry_told, check_receipts_told];
+pub const TOLD: [Check; ENTRIES] =
+    [check_audit_told, check_compare_told, check_ancestry_told, check_receipts_told, check_notes_told];
 
 /// The lengths that an index table and a ballot table need.
 const NEED: [usize; 2] = [INDEX_NEED, BALLOTS_NEED];
@@ -882,11 +886,13 @@ pub fn check_answer(with: &Interface, board: Board, known: &Answer) -> Result<()
     let (random, tally) = (&mut Random::new(0), &mut Tally::default());
     let presented = &Presented::of_all_items(&case.words);
     let lengths = [i, b, presented.buffer, AUDIT_ANSWER];
+    let noted = &Noted::of_all_mains(&case.words);
     let calls = [
         Some(call_audit(with, case, [i, b, AUDIT_ANSWER], random, tally)),
         call_compare(with, case, [i, b, i, b, COMPARE_ANSWER], random, tally),
         call_ancestry(with, case, [i, b, LIST_NEED, ANCESTRY_ANSWER], random, tally),
         call_receipts(with, board, &presented.receipts, lengths, random, tally),
+        call_notes(with, board, &noted.notes, [i, b, NOTES_ANSWER], random, tally),
     ];
     for call in calls.iter().flatten() {
         call.hold_said(known.number, known.items)?;

@@ -4,6 +4,10 @@ use crate::answered::check_answers;
 use crate::audit::{audit_with, Board, Report, Rules, RULES};
 use crate::compare::{compare_with, Comparison, Tables};
 use crate::format::*;
+use crate::held::check_held;
+use crate::interface::agreement_words;
+use crate::noted::note_words;
+use crate::notes::{Agreement, Reason};
 use crate::plan::{Laid, Plan};
 use crate::presented::Presented;
 use crate::random::Random;
@@ -136,6 +140,8 @@ pub struct Seen {
     pub curves_apart: usize,
     /// Receipts of a cast behind another with its address and its signature, on each curve.
     pub second_casts: [usize; CURVES.len()],
+    /// Notes of a cast behind another with its address that agree, or not, by the first alone.
+    pub second_noted: [usize; CURVES.len()],
 }
 
 /// The hash of a seed: both by turns.
@@ -268,7 +274,7 @@ fn compare_at_each(hash: Hash, boards: [(&Laid, &Plan); 2], seen: &mut Seen) -> 
     Ok(())
 }
 
-// ---- receipts ----
+// ---- receipts and notes ----
 
 /// One bit for casts, in the last word of the address, so that several casts have one address. Other items have the
 /// curve's hash.
@@ -311,4 +317,55 @@ pub fn check_receipts(seed: u64, entry: ReceiptsWith, seen: &mut Seen) -> Result
     let seconds = (0..casts.len()).filter(|&at| casts[..at].contains(&casts[at])).count();
     seen.second_casts[plan.layout().curve as usize] += seconds;
     Ok(())
+}
+
+/// The entry for notes by any rules.
+pub type NotesWith = fn(Rules, Board, &[u32], Tables) -> (Report, Agreement);
+
+/// A board with several casts of one address: notes with it are of the first, also where the order or the time would be
+/// right by a later one alone, or wrong.
+pub fn check_notes(seed: u64, entry: NotesWith, seen: &mut Seen) -> Result<(), String> {
+    let random = &mut Random::new(seed);
+    let (shape, traits) = (any_shape(random, 150), Traits::any(random));
+    let plan = make_with(random, shape, traits).plan;
+    let laid = plan.lay_with(weak_for_casts);
+    for (notes, right) in notes_of_second_casts(&plan, &laid) {
+        let (mut index, mut ballots) = (vec![1; INDEX_NEED], vec![2; BALLOTS_NEED]);
+        let tables = Tables { index: &mut index, ballots: &mut ballots };
+        let (report, given) = entry(rules(weak_for_casts), laid.board(), &notes, tables);
+        if (report.number, report.items as usize) != (0, plan.items.len()) {
+            return Err(format!("notes of one address, seed {seed}: refused {} at {}", report.number, report.items));
+        }
+        if given != right {
+            return Err(format!("notes of one address, seed {seed}: {given:?}, not {right:?}"));
+        }
+        check_held(&laid.words, &notes, agreement_words(given))
+            .map_err(|message| format!("notes of one address, seed {seed}: {message}"))?;
+        seen.second_noted[plan.layout().curve as usize] += 1;
+    }
+    Ok(())
+}
+
+/// Notes with the address of two casts, and whether they agree, as the first of the two is meant.
+fn notes_of_second_casts(plan: &Plan, laid: &Laid) -> Vec<(Vec<u32>, Agreement)> {
+    let items = &plan.items;
+    let note = |at: usize, time: u64| note_words(time, &laid.addresses[at][..plan.layout().curve.widths().address]);
+    let casts: Vec<usize> = (0..items.len()).filter(|&at| items[at].code == CAST).collect();
+    let mut made = Vec::new();
+    for &later in &casts {
+        let one_address = |cast: &&usize| laid.addresses[**cast] == laid.addresses[later];
+        let first = *casts.iter().find(one_address).expect("the cast itself");
+        // A main item between the two that its address tells apart.
+        let Some(between) = (first + 1..later).find(|&at| items[at].kind == MAIN && items[at].code != CAST) else {
+            continue;
+        };
+        let [early, middle, late] = [first, between, later].map(|at| items[at].time);
+        let by_second = [note(between, late), note(later, late)].concat();
+        made.push((by_second, Agreement::Disagrees(2, Reason::OutOfOrder)));
+        made.push(([note(later, late), note(between, middle)].concat(), Agreement::AllAgree));
+        if early < late {
+            made.push((note(later, early), Agreement::AllAgree));
+        }
+    }
+    made
 }

@@ -103,6 +103,11 @@ impl Curve {
         self.widths().signature + self.widths().address
     }
 
+    /// The words of a watcher's note: a time of two words, then an address.
+    pub const fn note(self) -> usize {
+        2 + self.widths().address
+    }
+
     /// The address at a place.
     pub fn address(self, words: &[u32], at: usize) -> Digest {
         widened(&words[at..at + self.widths().address])

@@ -52,6 +52,9 @@ pub const NO_ITEM: u32 = u32::MAX;
 pub const MAX_RECEIPTS: usize = 512;
 pub const NO_CAST: u32 = u32::MAX;
 
+/// The most notes of a watcher that are held against a board at once.
+pub const MAX_NOTES: usize = 1_024;
+
 const _: () = assert!(MAX_BALLOTS == (MAX_ITEMS - 5) / 5 && BALLOTS_NEED == 1_224);
 const _: () = assert!(INDEX_NEED == 10_240);
 const _: () = assert!(ROLL_MOST == 4_096);

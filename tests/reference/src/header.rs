@@ -54,6 +54,18 @@ const NAMES: &[(&str, usize)] = &[
     ("TIRFOLMA_RECEIPT_WORDS_384", Curve::Secp384r1.receipt()),
     ("TIRFOLMA_RECEIPT_WORDS_521", Curve::Secp521r1.receipt()),
     ("TIRFOLMA_NO_CAST", NO_CAST as usize),
+    ("TIRFOLMA_NOTES", MAX_NOTES),
+    ("TIRFOLMA_NOTE_WORDS", Curve::Secp256r1.note()),
+    ("TIRFOLMA_NOTE_WORDS_384", Curve::Secp384r1.note()),
+    ("TIRFOLMA_NOTE_WORDS_521", Curve::Secp521r1.note()),
+    ("TIRFOLMA_NOTES_ANSWER_WORDS", NOTES_ANSWER),
+    ("TIRFOLMA_AGREEMENT", notes_answer::AGREEMENT),
+    ("TIRFOLMA_FIRST_NOTE", notes_answer::NOTE),
+    ("TIRFOLMA_NOT_HELD", agreement::NOT_HELD as usize),
+    ("TIRFOLMA_ALL_AGREE", agreement::ALL_AGREE as usize),
+    ("TIRFOLMA_NO_MAIN_ITEM", agreement::NO_MAIN_ITEM as usize),
+    ("TIRFOLMA_OUT_OF_ORDER", agreement::OUT_OF_ORDER as usize),
+    ("TIRFOLMA_TOO_EARLY", agreement::TOO_EARLY as usize),
 ];
 
 /// Against a second #include. It alone has no value.
@@ -130,13 +142,14 @@ fn add_enumerators<'a>(text: &'a str, found: &mut Vec<(&'a str, &'a str)>) -> Re
     Ok(())
 }
 
-/// A number, or in parentheses a product of numbers and of names that are defined above.
+/// A sum of numbers and of names that are defined above, or in parentheses a product of them.
 fn value(written: &str, above: &[(&str, usize)]) -> Option<usize> {
-    let Some(product) = written.strip_prefix('(').and_then(|rest| rest.strip_suffix(')')) else {
-        return number(written);
-    };
     let named = |name: &str| above.iter().find(|defined| defined.0 == name).map(|defined| defined.1);
-    product.split('*').map(str::trim).map(|factor| number(factor).or_else(|| named(factor))).product()
+    let value = |part: &str| number(part.trim()).or_else(|| named(part.trim()));
+    match written.strip_prefix('(').and_then(|rest| rest.strip_suffix(')')) {
+        Some(product) => product.split('*').map(value).product(),
+        None => written.split('+').map(value).sum(),
+    }
 }
 
 /// A number in decimal, unsigned where it ends with `u`. One that begins with another 0 is octal in C.
@@ -196,7 +209,7 @@ fn mistakes(text: &str) -> Result<Vec<Mistake>, String> {
 }
 
 /// What is wrong, the text that goes, the text in its place, and what the check must say.
-const MISTAKES: [[&str; 4]; 21] = [
+const MISTAKES: [[&str; 4]; 24] = [
     ["a length is missing", "#define TIRFOLMA_LIST_WORDS 2048\n", "", "the header does not define TIRFOLMA_LIST_WORDS"],
     [
         "a length is a comment",
@@ -295,6 +308,24 @@ const MISTAKES: [[&str; 4]; 21] = [
         "#define TIRFOLMA_NO_CAST 4294967295u",
         "#define TIRFOLMA_NO_CAST 0",
         "the header has '0' for TIRFOLMA_NO_CAST, not 4294967295",
+    ],
+    [
+        "notes of two curves are as wide",
+        "#define TIRFOLMA_NOTE_WORDS_384 14",
+        "#define TIRFOLMA_NOTE_WORDS_384 18",
+        "the header has '18' for TIRFOLMA_NOTE_WORDS_384, not 14",
+    ],
+    [
+        "a sum has a wrong name",
+        "TIRFOLMA_FIRST_NOTE = TIRFOLMA_AUDIT_WORDS + 1",
+        "TIRFOLMA_FIRST_NOTE = TIRFOLMA_END_WORDS + 1",
+        "the header has 'TIRFOLMA_END_WORDS + 1' for TIRFOLMA_FIRST_NOTE, not 23",
+    ],
+    [
+        "a disagreement has no number",
+        "TIRFOLMA_OUT_OF_ORDER = 3",
+        "TIRFOLMA_OUT_OF_ORDER",
+        "the header has '' for TIRFOLMA_OUT_OF_ORDER, not 3",
     ],
     [
         "a product has a name that is defined below it",

@@ -6,12 +6,15 @@
 use crate::ancestry::Ancestry;
 use crate::audit::Report;
 use crate::compare::{Comparison, Side};
+use crate::notes::{Agreement, Reason};
 
 /// The words of an end address: those of the board, then zeros.
 pub const END_WORDS: usize = 16;
 pub const AUDIT_ANSWER: usize = 22;
 pub const COMPARE_ANSWER: usize = 6;
 pub const ANCESTRY_ANSWER: usize = 2;
+/// The audit's answer, and two words more.
+pub const NOTES_ANSWER: usize = 24;
 
 /// Where the words of the audit's answer stand.
 pub mod audit_answer {
@@ -50,6 +53,22 @@ pub mod ancestry_answer {
     pub const COUNT: usize = 1;
 }
 
+/// Where the two words of the answer to notes stand that the audit's does not have.
+pub mod notes_answer {
+    pub const AGREEMENT: usize = 22;
+    /// The number, from 1, of the first note that disagrees; else 0.
+    pub const NOTE: usize = 23;
+}
+
+/// Whether notes agree, and why the first that does not disagrees.
+pub mod agreement {
+    pub const NOT_HELD: u32 = 0;
+    pub const ALL_AGREE: u32 = 1;
+    pub const NO_MAIN_ITEM: u32 = 2;
+    pub const OUT_OF_ORDER: u32 = 3;
+    pub const TOO_EARLY: u32 = 4;
+}
+
 #[rustfmt::skip]
 pub type AuditEntry = unsafe extern "C" fn(
     *const u32, usize, *const u32, usize, *const u32, usize,
@@ -67,6 +86,10 @@ pub type AncestryEntry = unsafe extern "C" fn(
 pub type ReceiptsEntry = unsafe extern "C" fn(
     *const u32, usize, *const u32, usize, *const u32, usize, *const u32, usize,
     *mut u32, usize, *mut u32, usize, *mut u32, usize, *mut u32, usize) -> bool;
+#[rustfmt::skip]
+pub type NotesEntry = unsafe extern "C" fn(
+    *const u32, usize, *const u32, usize, *const u32, usize, *const u32, usize,
+    *mut u32, usize, *mut u32, usize, *mut u32, usize) -> bool;
 
 #[derive(Clone, Copy)]
 pub struct Interface {
@@ -75,6 +98,7 @@ pub struct Interface {
     pub compare: Option<CompareEntry>,
     pub ancestry: Option<AncestryEntry>,
     pub receipts: Option<ReceiptsEntry>,
+    pub notes: Option<NotesEntry>,
 }
 
 pub fn audit_words(report: &Report) -> [u32; AUDIT_ANSWER] {
@@ -88,6 +112,24 @@ pub fn audit_words(report: &Report) -> [u32; AUDIT_ANSWER] {
     words[WEIGHT_LOW] = report.weight as u32;
     words[END..END + END_WORDS].copy_from_slice(&report.end);
     words
+}
+
+/// The audit's words, and whether the notes agree.
+pub fn notes_words(report: &Report, agreement: Agreement) -> [u32; NOTES_ANSWER] {
+    let mut words = [0; NOTES_ANSWER];
+    words[..AUDIT_ANSWER].copy_from_slice(&audit_words(report));
+    words[AUDIT_ANSWER..].copy_from_slice(&agreement_words(agreement));
+    words
+}
+
+pub fn agreement_words(agreement: Agreement) -> [u32; 2] {
+    match agreement {
+        Agreement::NotHeld => [agreement::NOT_HELD, 0],
+        Agreement::AllAgree => [agreement::ALL_AGREE, 0],
+        Agreement::Disagrees(note, Reason::NoMainItem) => [agreement::NO_MAIN_ITEM, note],
+        Agreement::Disagrees(note, Reason::OutOfOrder) => [agreement::OUT_OF_ORDER, note],
+        Agreement::Disagrees(note, Reason::TooEarly) => [agreement::TOO_EARLY, note],
+    }
 }
 
 /// The words that a kind does not use are 0.
@@ -152,6 +194,12 @@ pub fn library() -> Option<Interface> {
             roll: *const u32, roll_len: usize, receipts: *const u32, receipts_len: usize,
             index: *mut u32, index_len: usize, ballots: *mut u32, ballots_len: usize,
             answers: *mut u32, answers_len: usize, answer: *mut u32, answer_len: usize) -> bool;
+        #[cfg(has_notes)]
+        fn tirfolma_notes(
+            board: *const u32, board_len: usize, verdicts: *const u32, verdicts_len: usize,
+            roll: *const u32, roll_len: usize, notes: *const u32, notes_len: usize,
+            index: *mut u32, index_len: usize, ballots: *mut u32, ballots_len: usize,
+            answer: *mut u32, answer_len: usize) -> bool;
     }
     #[cfg(has_compare)]
     let compare: Option<CompareEntry> = Some(tirfolma_compare);
@@ -165,7 +213,11 @@ pub fn library() -> Option<Interface> {
     let receipts: Option<ReceiptsEntry> = Some(tirfolma_receipts);
     #[cfg(not(has_receipts))]
     let receipts: Option<ReceiptsEntry> = None;
-    Some(Interface { audit: tirfolma_audit, compare, ancestry, receipts })
+    #[cfg(has_notes)]
+    let notes: Option<NotesEntry> = Some(tirfolma_notes);
+    #[cfg(not(has_notes))]
+    let notes: Option<NotesEntry> = None;
+    Some(Interface { audit: tirfolma_audit, compare, ancestry, receipts, notes })
 }
 
 #[cfg(not(feature = "library"))]

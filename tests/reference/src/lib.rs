@@ -2,10 +2,12 @@
 //! is needed to hold the auditor against it: boards made from a seed, sound and faulty, and
 //! a comparison word by word over the C interface.
 //!
-//! The rules: `sha256`, `sha512`, `curves`, `format`, `sets`, `audit`, `compare`, `ancestry`, `receipts`, `program`.
-//! The boards: `random`, `plan`, `roll`, `sound`, `crowded`, `faults`, `damage`, `collisions`; receipts for them: `presented`.
+//! The rules: `sha256`, `sha512`, `curves`, `format`, `sets`, `audit`, `compare`, `ancestry`, `receipts`, `notes`,
+//! `program`.
+//! The boards: `random`, `plan`, `roll`, `sound`, `crowded`, `faults`, `damage`, `collisions`; receipts for them: `presented`;
+//! notes: `noted`.
 //! The checks: `interface`, `header`, `stand_in`, `told`, `closed`, `opened`, `enrolled`, `contests`, `zeros`, `answered`,
-//! `reached`, `hidden`, `cuts`, `calls`, `checks`, `stored`, `comparisons`, `receipt_files`.
+//! `held`, `reached`, `hidden`, `cuts`, `noted_cuts`, `calls`, `checks`, `stored`, `comparisons`, `receipt_files`, `note_files`.
 
 pub mod ancestry;
 pub mod answered;
@@ -25,8 +27,13 @@ pub mod enrolled;
 pub mod faults;
 pub mod format;
 pub mod header;
+pub mod held;
 pub mod hidden;
 pub mod interface;
+pub mod note_files;
+pub mod noted;
+pub mod noted_cuts;
+pub mod notes;
 pub mod opened;
 pub mod plan;
 pub mod presented;

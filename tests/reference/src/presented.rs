@@ -33,13 +33,13 @@ pub enum Sort {
     Nothing,
 }
 
-/// How the words of all receipts end.
+/// How the words of all receipts, or of all notes, end.
 #[derive(Clone, Copy, PartialEq, Eq, Debug)]
 pub enum Ending {
     Whole,
     Missing,
     TooMany,
-    /// Each receipt is as wide as on another curve.
+    /// Each of them is as wide as on another curve.
     OtherWidth,
 }
 
@@ -181,7 +181,7 @@ fn how_many(random: &mut Random) -> usize {
     }
 }
 
-fn any_ending(random: &mut Random) -> Ending {
+pub fn any_ending(random: &mut Random) -> Ending {
     match random.below(20) {
         0 => Ending::Missing,
         1 => Ending::TooMany,

@@ -1,15 +1,17 @@
 //! What there must be boards of. Sound boards are to show ballots, who closed them and who opened them, as known
 //! from their making; all boards together, the ways in which a roll is good, bad, or lacks a voter, each in all six
-//! layouts. Of the widths of contest sets see `widths`, of the curves `curves`, of receipts `receipts`.
+//! layouts. Of the widths of contest sets see `widths`, of the curves `curves`, of receipts `receipts`, of notes `notes`.
 
 use crate::calls::places;
 use crate::format::*;
 use crate::sound::Expected;
 
 mod curves;
+mod notes;
 mod receipts;
 mod widths;
 pub use curves::{OnCurve, CURVES_WANTED};
+pub use notes::{AskedNotes, NOTES_OF_UNKNOWN_TRAITS, NOTES_WANTED};
 pub use receipts::{Asked, OF_UNKNOWN_TRAITS, RECEIPTS_WANTED};
 pub use widths::{Sets, ON_SECP256R1, SETS_WANTED};
 

@@ -1,16 +1,19 @@
 //! The reference behind the auditor's C interface, to try the checks with: they must pass it, and must
 //! find each of the mistakes that it can be told to make. Those about the roll are in `rolls`, those about the
-//! widths of contest sets in `widths`, those about curves in `curves`, those about receipts in `receipts`.
+//! widths of contest sets in `widths`, those about curves in `curves`, those about receipts in `receipts`, those about notes
+//! in `notes`.
 
 use crate::ancestry::ancestry_with;
 use crate::audit::{audit_with, is_good_roll, is_spoiled, Board, History, Item, Opening, Rules, RULES};
 use crate::compare::{compare_with, Comparison, Side, Tables};
 use crate::format::*;
 use crate::interface::*;
+use crate::notes::Agreement;
 use std::slice::{from_raw_parts, from_raw_parts_mut};
 use std::sync::Mutex;
 
 mod curves;
+pub mod notes;
 pub mod receipts;
 mod rolls;
 mod widths;
@@ -31,6 +34,7 @@ pub fn stand_in() -> Interface {
         compare: Some(stand_in_compare),
         ancestry: Some(stand_in_ancestry),
         receipts: Some(stand_in_receipts),
+        notes: Some(stand_in_notes),
     }
 }
 
@@ -77,6 +81,12 @@ pub enum About {
     Receipts,
     /// Which of several casts with one address and one signature is answered.
     FirstCast,
+    /// The answer to notes for an accepted board.
+    Agreement,
+    /// The test of notes, its order, what a refusal or a disagreement leaves, and the words that the answer needs.
+    Notes,
+    /// Which of several main items with one address is noted.
+    FirstNoted,
 }
 
 /// Makes the mistakes of a list: each has a name, what it is about, and what is wrong.
@@ -279,6 +289,69 @@ mistakes! {
     EmptyRefused, Receipts, "a buffer without words is refused for no receipts";
     BehindAnswers, Receipts, "a word behind the answers is written";
     LastCast, FirstCast, "the last of several casts is answered";
+    HiddenAgrees, Agreement, "a hidden item's address agrees";
+    HiddenSkipped, Agreement, "a note of a hidden item is left aside";
+    GenesisUnseen, Agreement, "the first main item is not found";
+    LastMainNotNoted, Agreement, "the last main item is not found";
+    EightOfNoted, Agreement, "the first eight words of a note's address alone are compared";
+    TwelveOfNoted, Agreement, "the first twelve words of a note's address alone are compared";
+    LastOfNoted, Agreement, "the last word of a note's address is not compared";
+    FirstOfNoted, Agreement, "the first word of a note's address is not compared";
+    AddressBeforeTime, Agreement, "a note has its address before its time";
+    EqualRefused, Agreement, "the same main item as that of the note before is out of order";
+    BackByOneTaken, Agreement, "the main item before that of the note before is in order";
+    OrderNotTested, Agreement, "the order of main items is not looked at";
+    OrderOfFirst, Agreement, "the order is that of a note and the first one";
+    OrderByTime, Agreement, "of two main items the one with the lesser time is the earlier";
+    TimeNotTested, Agreement, "the time of a note is not looked at";
+    TimesMustRise, Agreement, "a time less than that of the note before is too early";
+    TimeOfNoteBefore, Agreement, "a note's time is compared with that of the note before, not with its item's";
+    SameTimeRefused, Agreement, "a time that is the item's own is too early";
+    OneLessInTime, Agreement, "a time one less than the item's is not too early";
+    LowWordAlone, Agreement, "the low words of two times alone are compared";
+    HighWordAlone, Agreement, "the high words of two times alone are compared";
+    WordByWord, Agreement, "a time with a lesser low word is too early, whatever its high word";
+    TimeTurned, Agreement, "a note's time has its low word first";
+    SignedTime, Agreement, "times are compared as signed numbers";
+    NextPassed, Agreement, "a note later than the main item behind its own disagrees";
+    ReasonsTurned, Agreement, "of two reasons the time goes before the order";
+    OneReason, Agreement, "every disagreement has the first reason";
+    NoteFromZero, Agreement, "notes are numbered from 0";
+    MainForNote, Agreement, "the number is the main item's, not the note's";
+    LastDisagreeing, Agreement, "the last note that disagrees is named";
+    FirstNoteUnseen, Agreement, "the first note is not looked at";
+    LastNoteUnseen, Agreement, "the last note is not looked at";
+    NotesTo512, Agreement, "notes past the 512th are not looked at";
+    NoneNotHeld, Agreement, "no notes are not held";
+    Refuses1024, Notes, "1,024 notes are refused";
+    Takes1025, Notes, "1,025 notes are taken";
+    ManyNotesTaken, Notes, "any number of notes is taken";
+    NoteOf10, Notes, "23 goes by notes of ten words on every curve";
+    OversizeNoteOf10, Notes, "23 goes by notes of ten words where the board has too many words";
+    RefusedNoteOf10, Notes, "23 goes by notes of ten words where the board is refused";
+    NoteByUnknown, Notes, "23 goes by the curve of a traits word that is not known";
+    MostNotesOf10, Notes, "more words than 1,024 notes of secp256r1 are refused on every curve";
+    MostNotesOf18, Notes, "as many words as 1,024 notes of secp521r1 are taken on every curve";
+    PartOfNoteTaken, Notes, "the words behind the last whole note are left aside";
+    NoNotesRefused, Notes, "no notes are refused";
+    NotesAfterAudit, Notes, "23 comes after the audit";
+    NotesAfterLimit, Notes, "23 comes after the word limit";
+    NotesAfterTables, Notes, "23 comes after the tables' 2";
+    NotesAfterRoll, Notes, "23 comes after 20";
+    NotesClear, Notes, "23 leaves the tables all zero";
+    NotesHaveItems, Notes, "23 gives the number of notes as items";
+    BadAgree, Notes, "bad notes agree";
+    RefusedAgrees, Notes, "notes agree where the board is refused";
+    HeldUnderway, Notes, "notes are held against the items before the one that is refused";
+    DisagreementClears, Notes, "a disagreement leaves the tables all zero";
+    DisagreementClearsBallots, Notes, "a disagreement leaves the ballot table all zero";
+    DisagreementHasNoItems, Notes, "a disagreement gives 0 items";
+    DisagreementHasNoEnd, Notes, "a disagreement gives no end address";
+    DisagreementRefuses, Notes, "a disagreement is refused by 23";
+    AgreementUnwritten, Notes, "the last two words of the answer stay as they were in a refusal";
+    AgreementUnnumbered, Notes, "the last word of the answer stays as it was where all agree";
+    AnswerOf22, Notes, "22 words of answer to notes are taken";
+    LaterMeant, FirstNoted, "the last of several main items is noted";
 }
 
 /// The mistake that the stand-in makes.
@@ -652,5 +725,56 @@ unsafe extern "C" fn stand_in_receipts(
         *answers.add(answers_len) ^= 1;
     }
     let words = curves::answer_with_end(board, audit_words(&report), from_raw_parts(answer, answer_len));
+    finish(answer, answer_len, &words, [(index, index_len), (ballots, ballots_len)])
+}
+
+#[rustfmt::skip]
+unsafe extern "C" fn stand_in_notes(
+    board: *const u32, board_len: usize, verdicts: *const u32, verdicts_len: usize,
+    roll: *const u32, roll_len: usize, asked: *const u32, asked_len: usize,
+    index: *mut u32, index_len: usize, ballots: *mut u32, ballots_len: usize,
+    answer: *mut u32, answer_len: usize,
+) -> bool {
+    if answer_len < NOTES_ANSWER && made() == Some(Mistake::AnswerOf22) && answer_len >= AUDIT_ANSWER {
+        let mut longer = [0; NOTES_ANSWER];
+        let given = stand_in_notes(
+            board, board_len, verdicts, verdicts_len, roll, roll_len, asked, asked_len, index, index_len,
+            ballots, ballots_len, longer.as_mut_ptr(), NOTES_ANSWER);
+        from_raw_parts_mut(answer, answer_len).copy_from_slice(&longer[..answer_len]);
+        return given;
+    }
+    if answer_len < NOTES_ANSWER {
+        return too_short(answer, answer_len);
+    }
+    let board = Board {
+        words: from_raw_parts(board, board_len),
+        verdicts: from_raw_parts(verdicts, verdicts_len),
+        roll: rolls::taken(roll, roll_len),
+    };
+    let tables =
+        Tables { index: from_raw_parts_mut(index, index_len), ballots: from_raw_parts_mut(ballots, ballots_len) };
+    let asked = from_raw_parts(asked, asked_len);
+    let (report, agreement) = with_tables(board, tables, |Tables { index, ballots }| {
+        let tables = Tables { index: &mut *index, ballots };
+        let (mut report, agreement) = notes::held(rules(), board, asked, tables);
+        if report.number == 0 {
+            close_wrongly(board, index, Of::OneBoard);
+        }
+        report.number = in_wrong_order(board, report.number, report.items);
+        (report, agreement)
+    });
+    let mut words = notes_words(&report, agreement);
+    let before = from_raw_parts(answer, answer_len);
+    let audited = curves::answer_with_end(board, audit_words(&report), before);
+    words[..AUDIT_ANSWER].copy_from_slice(&audited);
+    match (made(), agreement) {
+        (Some(Mistake::AgreementUnwritten), Agreement::NotHeld) => {
+            words[AUDIT_ANSWER..].copy_from_slice(&before[AUDIT_ANSWER..NOTES_ANSWER]);
+        }
+        (Some(Mistake::AgreementUnnumbered), Agreement::AllAgree) => {
+            words[notes_answer::NOTE] = before[notes_answer::NOTE];
+        }
+        _ => {}
+    }
     finish(answer, answer_len, &words, [(index, index_len), (ballots, ballots_len)])
 }

@@ -1,14 +1,14 @@
 //! Runs the checks: of the reference by itself, and of the auditor's library where it is linked.
 //!
-//!   check [--boards FOLDER]... [--comparisons FOLDER] [--receipts FOLDER] [--header FILE] [--program FILE] [--cases N]
-//!         [--seed N] [--dump FOLDER]
+//!   check [--boards FOLDER]... [--comparisons FOLDER] [--receipts FOLDER] [--notes FOLDER] [--header FILE]
+//!         [--program FILE] [--cases N] [--seed N] [--dump FOLDER]
 //!   check --only GROUP SEED     one case again, as a failure names it
 //!   check --all-entries ..      a library that is not linked, or lacks an entry, is a failure
 //!   check --stand-in ..         the reference in the library's place, to try the harness
 
 use reference::answered::OF_ANSWERS;
 use reference::audit::Board;
-use reference::calls::{Tally, APART, COLLISION, SAME, SHORT_ANSWER};
+use reference::calls::{Tally, AGREE, APART, COLLISION, SAME, SHORT_ANSWER};
 use reference::checks::*;
 use reference::collisions;
 use reference::comparisons::check_comparisons;
@@ -17,17 +17,23 @@ use reference::cuts::{self, check_cuts};
 use reference::faults::bad_roll;
 use reference::format::{code, Curve, Layout, Width, CAST, CURVES, LAYOUTS, MAX_WORDS};
 use reference::header::{check_header, check_header_mistakes};
+use reference::held::OF_NOTES;
 use reference::hidden::{bared, check_bared, check_hidden_tracks, Bared};
 use reference::interface::{library, Interface};
+use reference::note_files::check_note_files;
+use reference::noted::Noted;
+use reference::noted_cuts::{self, check_noted_cuts};
+use reference::notes::notes_with;
 use reference::presented::Presented;
 use reference::program::{bytes, program, PROGRAM_WORDS};
 use reference::random::Random;
-use reference::reached::{Asked, BLANK, CURVES_WANTED, OF_UNKNOWN_TRAITS, ON_SECP256R1};
-use reference::reached::{RECEIPTS_WANTED, ROLLS_WANTED, SETS_WANTED, WANTED};
+use reference::reached::{Asked, AskedNotes, BLANK, CURVES_WANTED, NOTES_OF_UNKNOWN_TRAITS, NOTES_WANTED};
+use reference::reached::{OF_UNKNOWN_TRAITS, ON_SECP256R1, RECEIPTS_WANTED, ROLLS_WANTED, SETS_WANTED, WANTED};
 use reference::receipt_files::check_receipt_files;
 use reference::receipts::receipts_with;
 use reference::roll::{full_around, voters_of};
 use reference::sound::{Shape, Traits};
+use reference::stand_in::notes::held;
 use reference::stand_in::receipts::answered;
 use reference::stand_in::{make_mistake, stand_in, About, Mistake, MISTAKES};
 use reference::stored::check_folder;
@@ -45,6 +51,7 @@ struct Options {
     boards: Vec<PathBuf>,
     comparisons: Option<PathBuf>,
     receipts: Option<PathBuf>,
+    notes: Option<PathBuf>,
     header: Option<PathBuf>,
     program: Option<PathBuf>,
     cases: u64,
@@ -60,6 +67,7 @@ fn options() -> Options {
         boards: Vec::new(),
         comparisons: None,
         receipts: None,
+        notes: None,
         header: None,
         program: None,
         cases: 36_000,
@@ -77,6 +85,7 @@ fn options() -> Options {
             "--boards" => o.boards.push(PathBuf::from(value())),
             "--comparisons" => o.comparisons = Some(PathBuf::from(value())),
             "--receipts" => o.receipts = Some(PathBuf::from(value())),
+            "--notes" => o.notes = Some(PathBuf::from(value())),
             "--header" => o.header = Some(PathBuf::from(value())),
             "--program" => o.program = Some(PathBuf::from(value())),
             "--cases" => o.cases = number(value()),
@@ -96,8 +105,8 @@ fn options() -> Options {
 
 fn usage() -> ! {
     eprintln!(
-        "usage: check [--boards FOLDER]... [--comparisons FOLDER] [--receipts FOLDER] [--header FILE] [--program FILE] \
-         [--cases N] [--seed N] [--dump FOLDER]"
+        "usage: check [--boards FOLDER]... [--comparisons FOLDER] [--receipts FOLDER] [--notes FOLDER] [--header FILE] \
+         [--program FILE] [--cases N] [--seed N] [--dump FOLDER]"
     );
     eprintln!("       check --only GROUP SEED");
     exit(2);
@@ -114,18 +123,22 @@ fn main() {
     let tables = stored_boards(&options);
     stored_comparisons(&options);
     stored_receipts(&options);
+    stored_notes(&options);
     collision_boards();
     hidden_tracks();
     let bared = refused_mains();
     let cut = cut_boards();
+    noted_boards(&cut);
     mistakes_are_found();
     if tables > 0 {
         stored_boards_find(&options);
     }
     stored_comparisons_find(&options);
     stored_receipts_find(&options);
+    stored_notes_find(&options);
     bared_boards_find(&bared);
     cut_boards_find(&cut);
+    noted_boards_find(&cut);
     collisions_find();
     let with = if options.stand_in { Some(stand_in()) } else { library() };
     if options.stand_in {
@@ -133,12 +146,15 @@ fn main() {
     } else if with.is_none() {
         println!("library    NOT LINKED: the reference is checked by itself only");
     }
-    let whole = with.is_some_and(|with| with.compare.is_some() && with.ancestry.is_some() && with.receipts.is_some());
-    if options.all_entries && !whole {
+    let whole = |with: Interface| {
+        with.compare.is_some() && with.ancestry.is_some() && with.receipts.is_some() && with.notes.is_some()
+    };
+    if options.all_entries && !with.is_some_and(whole) {
         fail("the library is not linked, or lacks an entry");
     }
     rolls_of_each_length(with);
     receipts_in_each_number(with);
+    notes_in_each_number(with);
     cases(&options, with);
     match &options.program {
         Some(path) => programs(&options, path),
@@ -210,13 +226,23 @@ fn stored_receipts(options: &Options) {
     }
 }
 
+fn stored_notes(options: &Options) {
+    let Some(folder) = &options.notes else { return };
+    match check_note_files(folder, library()) {
+        Ok(count) => println!("stored     {count} sets of notes are answered as expected ({})", folder.display()),
+        Err(message) => fail(&message),
+    }
+}
+
 /// So many boards with casts of one address.
 const SECOND_CASTS: u64 = 100;
 
 fn collision_boards() {
     let mut seen = collisions::Seen::default();
     for seed in 0..SECOND_CASTS {
-        collisions::check_receipts(seed, receipts_with, &mut seen).unwrap_or_else(|message| fail(&message));
+        let receipts = collisions::check_receipts(seed, receipts_with, &mut seen);
+        let notes = receipts.and_then(|()| collisions::check_notes(seed, notes_with, &mut seen));
+        notes.unwrap_or_else(|message| fail(&message));
     }
     for seed in 0..1_500 {
         for check in [collisions::check, collisions::check_across, collisions::check_curves] {
@@ -224,7 +250,7 @@ fn collision_boards() {
         }
     }
     let few = seen.across < 300 || seen.same < 50 || seen.collision < 500 || seen.uneven < 100 || seen.apart < 500;
-    let few = few || seen.second_casts.iter().any(|&times| times < 20);
+    let few = few || seen.second_casts.iter().chain(&seen.second_noted).any(|&times| times < 20);
     if few || seen.on_curve.iter().any(|&times| times < 100) || seen.curves_apart < 500 {
         fail(&format!("too few collisions were made: {seen:?}"));
     }
@@ -242,6 +268,8 @@ fn collision_boards() {
     println!(
         "           {a} + {b} + {c} receipts of a second cast with one address and signature: the first is answered"
     );
+    let [a, b, c] = seen.second_noted;
+    println!("           {a} + {b} + {c} sets of notes of a second cast with one address: the first is meant");
 }
 
 fn hidden_tracks() {
@@ -315,6 +343,28 @@ fn cut_boards() -> Vec<Case> {
     boards
 }
 
+/// Holds the reference, and the library where it has the entries, to the cuts at noted items: of these boards at all main
+/// items, of long ones at some.
+fn noted_boards(boards: &[Case]) {
+    let makers = Makers::default();
+    // Three sound ones, one on each curve.
+    let long: Vec<Case> = [0, 24, 48].iter().map(|&seed| case(&makers, Group::Long, seed)).collect();
+    for (side, with) in [("reference", Some(stand_in())), ("library", library())] {
+        let Some(with) = with.filter(|with| with.notes.is_some() && with.compare.is_some()) else { continue };
+        let mut seen = noted_cuts::Seen::default();
+        for (case, most) in boards.iter().map(|case| (case, usize::MAX)).chain(long.iter().map(|case| (case, 3))) {
+            let held = check_noted_cuts(&with, case, most, side == "library", &mut seen);
+            held.unwrap_or_else(|message| fail(&format!("{side}, notes for {}: {message}", case.name)));
+        }
+        let noted_cuts::Seen { cuts, agreed } = seen;
+        if cuts.iter().any(|&times| times < 100) || agreed.iter().any(|&times| times < 10) {
+            fail(&format!("{side}: too few cuts at noted items, {cuts:?}, or sets of notes that agree, {agreed:?}"));
+        }
+        let [a, b, c] = cuts;
+        println!("           {a} + {b} + {c} cuts at noted items, {side}: accepted, with the noted end, the same up to there");
+    }
+}
+
 /// The boards that the checks are tried with.
 struct Tried {
     sound: Vec<Case>,
@@ -329,7 +379,8 @@ struct Tried {
     curves: Vec<Case>,
     zeros: Vec<Case>,
     two_layouts: Vec<Case>,
-    receipts: Vec<Case>,
+    /// For receipts and notes.
+    asked: Vec<Case>,
 }
 
 impl Default for Tried {
@@ -353,7 +404,7 @@ impl Default for Tried {
         });
         let at_the_end = cases_of(&makers, "18/", &[0, 1, 2, 3, 4, 5]);
         Tried {
-            receipts: [&sound[..200], &traits, &at_the_end, &oversize.collect::<Vec<Case>>()].concat(),
+            asked: [&sound[..200], &traits, &at_the_end, &some("20/roll"), &oversize.collect::<Vec<Case>>()].concat(),
             full: vec![case(&makers, Group::Full, 0)],
             openings: of("11/opening"),
             casts: of("12/cast after spoil and opening"),
@@ -375,32 +426,34 @@ impl Tried {
     fn by(&self, mistake: Option<Mistake>) -> Vec<(&[Case], [Check; ENTRIES])> {
         let Some(mistake) = mistake else {
             let others = [&self.openings, &self.casts, &self.bad_rolls, &self.unenrolled, &self.ordered];
-            let sets = [&self.widths, &self.contests, &self.curves, &self.zeros, &self.two_layouts, &self.receipts];
+            let sets = [&self.widths, &self.contests, &self.curves, &self.zeros, &self.two_layouts, &self.asked];
             let mut all: Vec<(&[Case], _)> = vec![(&self.full, FULL_LENGTHS), (&self.sound, TOLD)];
             all.extend([&self.sound].into_iter().chain(others).chain(sets).map(|cases| (&cases[..], ANY_LENGTH)));
             return all;
         };
-        let alone = |cases| vec![(cases, ANY_LENGTH)];
+        let any_length = |cases| vec![(cases, ANY_LENGTH)];
         let also_told = |cases| vec![(cases, ANY_LENGTH), (cases, TOLD)];
         match mistake.about() {
-            About::Words | About::Refused | About::Answer => alone(&self.sound[..]),
+            About::Words | About::Refused | About::Answer => any_length(&self.sound[..]),
             About::Lengths => vec![(&self.full, FULL_LENGTHS)],
             About::Closed => also_told(&self.sound[..]),
             About::Accepted => also_told(&self.openings[..]),
-            About::Hidden => alone(&self.casts[..]),
-            About::BadRoll => alone(&self.bad_rolls[..]),
+            About::Hidden => any_length(&self.casts[..]),
+            About::BadRoll => any_length(&self.bad_rolls[..]),
             About::Unenrolled => also_told(&self.unenrolled[..]),
-            About::Order => alone(&self.ordered[..]),
-            About::Width => alone(&self.widths[..]),
+            About::Order => any_length(&self.ordered[..]),
+            About::Width => any_length(&self.widths[..]),
             About::Contests => also_told(&self.contests[..]),
-            About::Curve => alone(&self.curves[..]),
+            About::Curve => any_length(&self.curves[..]),
             About::Zeros => also_told(&self.zeros[..]),
             About::End => also_told(&self.sound[..]),
-            About::TwoLayouts => alone(&self.two_layouts[..]),
-            About::Answers => vec![(&self.sound, only_receipts(ANY_LENGTH)), (&self.sound, only_receipts(TOLD))],
-            About::Receipts => vec![(&self.receipts, only_receipts(ANY_LENGTH))],
+            About::TwoLayouts => any_length(&self.two_layouts[..]),
+            About::Answers => vec![(&self.sound, alone(3, ANY_LENGTH)), (&self.sound, alone(3, TOLD))],
+            About::Receipts => vec![(&self.asked, alone(3, ANY_LENGTH))],
+            About::Agreement => vec![(&self.sound, alone(4, ANY_LENGTH)), (&self.sound, alone(4, TOLD))],
+            About::Notes => vec![(&self.asked, alone(4, ANY_LENGTH))],
             // It takes a collision.
-            About::FirstCast => Vec::new(),
+            About::FirstCast | About::FirstNoted => Vec::new(),
             About::OtherRoll => {
                 [&self.sound, &self.bad_rolls, &self.unenrolled].map(|cases| (&cases[..], ANY_LENGTH)).to_vec()
             }
@@ -408,19 +461,21 @@ impl Tried {
     }
 }
 
-/// The check of receipts alone: no other entry can make a mistake about them.
-fn only_receipts(checks: [Check; ENTRIES]) -> [Check; ENTRIES] {
-    let none: Check = |_, _, _, _| Ok(());
-    [none, none, none, checks[3]]
+/// The check of one entry alone: no other can make a mistake about receipts, or about notes.
+fn alone(entry: usize, checks: [Check; ENTRIES]) -> [Check; ENTRIES] {
+    let mut one: [Check; ENTRIES] = [|_, _, _, _| Ok(()); ENTRIES];
+    one[entry] = checks[entry];
+    one
 }
 
 /// The checks themselves are tried on a stand-in that makes a mistake. Those about lengths are to be
 /// found with a full board, by the lengths that are always tried with it; those about who closed a
-/// ballot, and openings, sessions and contests that pass, and answers to receipts also without the reference.
+/// ballot, and openings, sessions and contests that pass, answers to receipts and to notes also without the reference.
 fn mistakes_are_found() {
     let boards = Tried::default();
     let mut broken = [0; PROPERTIES.len()];
     let mut broken_answers = [0; OF_ANSWERS.len()];
+    let mut broken_notes = [0; OF_NOTES.len()];
     for mistake in [None].into_iter().chain(MISTAKES.iter().copied().map(Some)) {
         make_mistake(mistake);
         let tried = boards.by(mistake);
@@ -433,17 +488,20 @@ fn mistakes_are_found() {
             fail(&format!("the checks do not see '{what}' as they should: found {found:?} times"));
         }
         if mistake.is_some_and(found_alone) {
-            add_broken(tried[0].0, &mut broken);
+            add_broken(tried[0].0, |with, case, _| broken_by_audit(with, case), &mut broken);
         }
         if mistake.is_some_and(|mistake| mistake.about() == About::Answers) {
-            add_broken_answers(&tried[0].0[..100], &mut broken_answers);
+            add_broken(&tried[0].0[..100], broken_by_answers, &mut broken_answers);
+        }
+        if mistake.is_some_and(|mistake| mistake.about() == About::Agreement) {
+            add_broken(&tried[0].0[..100], broken_by_notes, &mut broken_notes);
         }
     }
     make_mistake(None);
-    if broken.contains(&0) || broken_answers.contains(&0) {
+    if broken.contains(&0) || broken_answers.contains(&0) || broken_notes.contains(&0) {
         fail(&format!(
             "the mistakes break the properties of the tables {broken:?} times, those of answers {broken_answers:?} times, \
-             one of them never"
+             those of notes {broken_notes:?} times, one of them never"
         ));
     }
     print_found();
@@ -455,22 +513,26 @@ fn print_found() {
     let somewhere = of(&|mistake| entries(mistake).contains(&true));
     println!("harness    {everywhere} planted mistakes are found in each entry");
     println!("           {} more in each entry that can make them", somewhere - everywhere);
-    let alone = of(&|mistake| found_alone(mistake) || matches!(mistake.about(), About::End | About::Answers));
+    let told = |mistake: Mistake| matches!(mistake.about(), About::End | About::Answers | About::Agreement);
+    let alone = of(&|mistake| found_alone(mistake) || told(mistake));
     println!(
         "           {alone} of them without the reference, by {} properties of the tables, {} of the answers to receipts, \
-         or by the end address",
+         {} of those to notes, or by the end address",
         PROPERTIES.len(),
-        OF_ANSWERS.len()
+        OF_ANSWERS.len(),
+        OF_NOTES.len()
     );
 }
 
-/// The entries in which a mistake is to be found, of audit, compare, ancestry and receipts: all where it can be made.
+/// The entries in which a mistake is to be found, of audit, compare, ancestry, receipts and notes: all where it can be made.
 fn entries(mistake: Mistake) -> [bool; ENTRIES] {
     match mistake.about() {
-        About::OtherRoll | About::TwoLayouts => [false, true, false, false],
-        About::End | About::Answer => [true, false, false, true],
-        About::Answers | About::Receipts => [false, false, false, true],
-        About::FirstCast => [false; ENTRIES],
+        About::OtherRoll | About::TwoLayouts => [false, true, false, false, false],
+        About::End => [true, false, false, true, true],
+        About::Answer => [true, false, false, true, false],
+        About::Answers | About::Receipts => [false, false, false, true, false],
+        About::Agreement | About::Notes => [false, false, false, false, true],
+        About::FirstCast | About::FirstNoted => [false; ENTRIES],
         _ => [true; ENTRIES],
     }
 }
@@ -517,6 +579,28 @@ fn stored_receipts_find(options: &Options) {
     find("the stored receipts", wanted, || check_receipt_files(folder, None).is_ok());
 }
 
+/// The stored notes are to find mistakes about notes, but for those that take a board of too many words, a table that is
+/// too short, or too few words of answer.
+fn stored_notes_find(options: &Options) {
+    let Some(folder) = &options.notes else { return };
+    let wanted = |mistake: Mistake| match mistake {
+        Mistake::OversizeNoteOf10 | Mistake::NotesAfterLimit | Mistake::NotesAfterTables | Mistake::AnswerOf22 => false,
+        _ => matches!(mistake.about(), About::Agreement | About::Notes),
+    };
+    find("the stored notes", wanted, || check_note_files(folder, None).is_ok());
+}
+
+/// Cuts at noted items are to find, the reference left aside, that notes agree though an address is no main item's.
+fn noted_boards_find(boards: &[Case]) {
+    let wanted = |mistake: Mistake| match mistake {
+        Mistake::HiddenAgrees | Mistake::EightOfNoted | Mistake::TwelveOfNoted => true,
+        Mistake::LastOfNoted | Mistake::FirstOfNoted => true,
+        _ => false,
+    };
+    let holds = |case| check_noted_cuts(&stand_in(), case, 1, false, &mut noted_cuts::Seen::default()).is_ok();
+    find("cuts at noted items", wanted, || boards.iter().all(holds));
+}
+
 /// Cuts of boards are to find, the reference left aside, that an answer goes or changes as a board grows, or comes late.
 fn cut_boards_find(boards: &[Case]) {
     let wanted =
@@ -525,10 +609,14 @@ fn cut_boards_find(boards: &[Case]) {
     find("cuts of boards", wanted, passes);
 }
 
-/// Casts of one address are to find that not the first of them is answered.
+/// Casts of one address are to find that not the first of them is answered, or meant.
 fn collisions_find() {
-    let check = |seed| collisions::check_receipts(seed, answered, &mut collisions::Seen::default());
-    let wanted = |mistake: Mistake| mistake.about() == About::FirstCast;
+    let check = |seed| {
+        let mut seen = collisions::Seen::default();
+        let receipts = collisions::check_receipts(seed, answered, &mut seen);
+        receipts.and_then(|()| collisions::check_notes(seed, held, &mut seen))
+    };
+    let wanted = |mistake: Mistake| matches!(mistake.about(), About::FirstCast | About::FirstNoted);
     find("casts of one address", wanted, || (0..SECOND_CASTS).all(|seed| check(seed).is_ok()));
 }
 
@@ -551,19 +639,13 @@ fn find(by: &str, wanted: fn(Mistake) -> bool, passes: impl Fn() -> bool) {
     println!("           {} of them by {by}", mistakes.len());
 }
 
-/// Counts the cases in which the stand-in's tables break each property.
-fn add_broken(cases: &[Case], broken: &mut [usize; PROPERTIES.len()]) {
-    for case in cases {
-        for (times, is_broken) in broken.iter_mut().zip(broken_by_audit(&stand_in(), case)) {
-            *times += usize::from(is_broken);
-        }
-    }
-}
+/// Tells which properties an implementation breaks with a case and a seed.
+type Broken<const COUNT: usize> = fn(&Interface, &Case, u64) -> [bool; COUNT];
 
-/// Counts the cases in which the stand-in's answers to receipts break each property.
-fn add_broken_answers(cases: &[Case], broken: &mut [usize; OF_ANSWERS.len()]) {
+/// Counts the cases in which the stand-in breaks each property.
+fn add_broken<const COUNT: usize>(cases: &[Case], by: Broken<COUNT>, broken: &mut [usize; COUNT]) {
     for (seed, case) in (0..).zip(cases) {
-        for (times, is_broken) in broken.iter_mut().zip(broken_by_answers(&stand_in(), case, seed)) {
+        for (times, is_broken) in broken.iter_mut().zip(by(&stand_in(), case, seed)) {
             *times += usize::from(is_broken);
         }
     }
@@ -609,14 +691,28 @@ struct Counts {
     /// By the refusal of the board, or 0: the calls with receipts that give it, that give 2 for the answers' buffer, and
     /// that give 22.
     asked_of: BTreeMap<u32, [usize; 3]>,
+    notes: Tally,
+    /// The calls that show each thing that is wanted of notes, by curve.
+    noted: ShownOfNotes,
+    /// By the refusal of the board, or 0: the calls with notes that give it, and that give 23.
+    noted_of: BTreeMap<u32, [usize; 2]>,
+}
+
+/// How many calls on each curve show each thing that is wanted of notes.
+struct ShownOfNotes([[usize; CURVES.len()]; NOTES_WANTED.len()]);
+
+impl Default for ShownOfNotes {
+    fn default() -> ShownOfNotes {
+        ShownOfNotes([[0; CURVES.len()]; NOTES_WANTED.len()])
+    }
 }
 
 /// A case in which something differs.
 struct Failure {
     case: Case,
     message: String,
-    /// The receipts, if it is about these.
-    receipts: Option<Vec<u32>>,
+    /// The receipts or the notes, if it is about these, and the file that they go to.
+    asked: Option<(&'static str, Vec<u32>)>,
 }
 
 /// One case: the reference against its making, then the library against the reference.
@@ -635,11 +731,15 @@ fn run_case(
     });
     let number = match held {
         Ok(number) => number,
-        Err(message) => return Err(Failure { case, message, receipts: None }),
+        Err(message) => return Err(Failure { case, message, asked: None }),
     };
     if let Err((presented, message)) = hold_receipts(with, &case, number, random, counts) {
         let words = presented.board(&case).words.to_vec();
-        return Err(Failure { case: Case { words, ..case }, message, receipts: Some(presented.receipts) });
+        let asked = Some(("receipts.words", presented.receipts));
+        return Err(Failure { case: Case { words, ..case }, message, asked });
+    }
+    if let Err((noted, message)) = hold_notes(with, &case, number, random, counts) {
+        return Err(Failure { case, message, asked: Some(("notes.words", noted.notes)) });
     }
     counts.boards += 1;
     counts.words += case.words.len();
@@ -705,6 +805,33 @@ fn hold_receipts(
     Ok(())
 }
 
+/// Whether notes for a case are held as the reference does, and as their making tells; without the library's entry, the
+/// reference's own. Where no item is read, several sets of notes take no time. Gives the notes for which something differs.
+fn hold_notes(
+    with: Option<Interface>,
+    case: &Case,
+    number: u32,
+    random: &mut Random,
+    counts: &mut Counts,
+) -> Result<(), (Noted, String)> {
+    let with = with.filter(|with| with.notes.is_some()).unwrap_or_else(stand_in);
+    let curve = Layout::of(&case.words).curve as usize;
+    for _ in 0..if case.words.len() > MAX_WORDS { 4 } else { 1 } {
+        let noted = Noted::new(case, random);
+        let said = match check_noted(&with, case, &noted, random, &mut counts.notes) {
+            Ok(Some(said)) => said,
+            Ok(None) => continue,
+            Err(message) => return Err((noted, message)),
+        };
+        let asked = AskedNotes { noted: &noted, board: &case.words, audited: number, said: &said };
+        add_shown(&mut counts.noted.0, NOTES_WANTED.map(|(_, shows)| shows(&asked)), curve);
+        if let Some(way) = asked.way() {
+            counts.noted_of.entry(number).or_default()[way] += 1;
+        }
+    }
+    Ok(())
+}
+
 /// Whether every other entry says of a case what the reference does, and leaves the boards as they are.
 fn hold_library(
     with: &Interface,
@@ -714,9 +841,10 @@ fn hold_library(
     counts: &mut Counts,
 ) -> Result<(), String> {
     let before = sum(case);
-    let tallies = [&mut counts.audit, &mut counts.compare, &mut counts.ancestry, &mut counts.receipts];
+    let tallies =
+        [&mut counts.audit, &mut counts.compare, &mut counts.ancestry, &mut counts.receipts, &mut counts.notes];
     for (entry, tally) in tallies.into_iter().enumerate() {
-        // Receipts have a check of their own.
+        // Receipts and notes have a check of their own.
         if entry < 3 {
             ANY_LENGTH[entry](with, case, random, tally)?;
         }
@@ -766,6 +894,16 @@ fn receipts_in_each_number(with: Option<Interface>) {
     }
 }
 
+/// A board on each curve with notes in every number, and with a bit of each word of a note turned over: the reference, or
+/// the library where it has the entry.
+fn notes_in_each_number(with: Option<Interface>) {
+    let with = with.filter(|with| with.notes.is_some()).unwrap_or_else(stand_in);
+    let (lengths, tally) = notes_of_each_length(&with).unwrap_or_else(|message| fail(&message));
+    let words = notes_of_each_word(&with).unwrap_or_else(|message| fail(&message));
+    println!("notes      {lengths} lengths, from 0 words on: {}", told(&tally));
+    println!("           {words} words of them with a bit turned over");
+}
+
 /// How many cases of each group make up a run of `cases`.
 fn shares(cases: u64) -> Vec<(Group, u64)> {
     let part = |percent: u64| cases * percent / 100;
@@ -787,7 +925,7 @@ fn cases(options: &Options, with: Option<Interface>) {
     let total = run_cases(options, with);
     print_reference(options, &total, start.elapsed().as_secs_f64());
     if options.cases >= 5_000 && !all_made(&total) {
-        fail("some refusal, reason, full board, sort of ballot, of roll, of set or of receipt was not made, or too rarely");
+        fail("some refusal, reason, full board, sort of ballot, of roll, of set, of receipt or of note was not made, or too rarely");
     }
     if let Some(with) = with {
         print_library(&with, &total);
@@ -851,6 +989,7 @@ fn print_reference(options: &Options, total: &Counts, seconds: f64) {
     print_shown("curves", CURVES_WANTED.iter().map(|(what, _)| *what).zip(&total.curves));
     let asked = RECEIPTS_WANTED.iter().map(|(what, _)| *what).zip(&total.asked);
     print_times("receipts", "calls", asked);
+    print_times("notes", "calls", NOTES_WANTED.iter().map(|(what, _)| *what).zip(&total.noted.0));
 }
 
 /// How many ways there are to be refused, or to pass, each counted in every layout that has a place for it.
@@ -880,12 +1019,17 @@ fn all_made(total: &Counts) -> bool {
     // All but 2, which takes a short table whatever the board is.
     let mut numbers = [1].into_iter().chain(3..=16).chain([18, 20, 21]);
     let refusals = numbers.clone().all(|n| total.by_number.contains_key(&n));
-    // With receipts each of them, 2 and 22.
-    let each_way = |n: u32| total.asked_of.get(&n).is_some_and(|ways| !ways.contains(&0));
+    // With receipts each of them, 2 and 22; with notes each of them and 23.
+    let each_way = |n: u32| {
+        let receipts = total.asked_of.get(&n).is_some_and(|ways| !ways.contains(&0));
+        receipts && total.noted_of.get(&n).is_some_and(|ways| !ways.contains(&0))
+    };
     let asked_of = each_way(0) && numbers.all(each_way);
-    let is_plain = |what: &str, times: &[usize]| OF_UNKNOWN_TRAITS.contains(&what) && times[0] >= 5;
-    let asked = RECEIPTS_WANTED.iter().zip(&total.asked);
-    let asked = asked_of && asked.into_iter().all(|((what, _), times)| is_plain(what, times) || everywhere(times));
+    let is_unknown = |what: &str| OF_UNKNOWN_TRAITS.contains(&what) || NOTES_OF_UNKNOWN_TRAITS.contains(&what);
+    let is_plain = |what: &str, times: &[usize]| is_unknown(what) && times[0] >= 5;
+    let receipts = RECEIPTS_WANTED.iter().map(|(what, _)| *what).zip(&total.asked);
+    let mut asked = receipts.chain(NOTES_WANTED.iter().map(|(what, _)| *what).zip(&total.noted.0));
+    let asked = asked_of && asked.all(|(what, times)| is_plain(what, times) || everywhere(times));
     let reasons = total.by_reason.len() >= reasons();
     let [filled, fewer, refused] = total.full;
     let ballots = WANTED.iter().zip(&total.shown).all(|(_, times)| everywhere(times));
@@ -909,6 +1053,7 @@ fn print_library(with: &Interface, total: &Counts) {
         ("compare", with.compare.is_some(), &total.compare),
         ("ancestry", with.ancestry.is_some(), &total.ancestry),
         ("receipts", with.receipts.is_some(), &total.receipts),
+        ("notes", with.notes.is_some(), &total.notes),
     ];
     for (name, linked, tally) in entries {
         if linked {
@@ -926,6 +1071,7 @@ fn told(tally: &Tally) -> String {
         SAME => "same".to_string(),
         COLLISION => "collision".to_string(),
         SHORT_ANSWER => "short answer".to_string(),
+        AGREE.. => ["all agree", "no main item", "out of order", "too early"][n - AGREE].to_string(),
         n => n.to_string(),
     };
     let parts: Vec<String> =
@@ -937,10 +1083,12 @@ fn merge(total: &mut Counts, part: Counts) {
     total.boards += part.boards;
     total.words += part.words;
     let by_layout = total.shown.iter_mut().chain(&mut total.rolls).flatten();
-    let by_curve = total.sets.iter_mut().chain(&mut total.curves).chain(&mut total.asked).flatten();
+    let asked = total.asked.iter_mut().chain(&mut total.noted.0);
+    let by_curve = total.sets.iter_mut().chain(&mut total.curves).chain(asked).flatten();
     let totals = total.full.iter_mut().chain(by_layout).chain(by_curve);
     let part_by_layout = part.shown.into_iter().chain(part.rolls).flatten();
-    let part_by_curve = part.sets.into_iter().chain(part.curves).chain(part.asked).flatten();
+    let part_asked = part.asked.into_iter().chain(part.noted.0);
+    let part_by_curve = part.sets.into_iter().chain(part.curves).chain(part_asked).flatten();
     for (a, b) in totals.zip(part.full.into_iter().chain(part_by_layout).chain(part_by_curve)) {
         *a += b;
     }
@@ -954,11 +1102,16 @@ fn merge(total: &mut Counts, part: Counts) {
         let total = total.asked_of.entry(number).or_default();
         total.iter_mut().zip(ways).for_each(|(a, b)| *a += b);
     }
+    for (number, ways) in part.noted_of {
+        let total = total.noted_of.entry(number).or_default();
+        total.iter_mut().zip(ways).for_each(|(a, b)| *a += b);
+    }
     for (to, from) in [
         (&mut total.audit, part.audit),
         (&mut total.compare, part.compare),
         (&mut total.ancestry, part.ancestry),
         (&mut total.receipts, part.receipts),
+        (&mut total.notes, part.notes),
     ] {
         for (a, b) in to.iter_mut().zip(from) {
             *a += b;
@@ -967,10 +1120,13 @@ fn merge(total: &mut Counts, part: Counts) {
 }
 
 /// The first difference: the case by name, and its words in files.
-fn report(options: &Options, Failure { case, message, receipts }: &Failure) -> ! {
+fn report(options: &Options, Failure { case, message, asked }: &Failure) -> ! {
     println!("FAILED     {}: {message}", case.name);
     dump(&options.dump, case.board());
-    let _ = fs::write(options.dump.join("receipts.words"), bytes(receipts.as_deref().unwrap_or(&[])));
+    for file in ["receipts.words", "notes.words"] {
+        let words = asked.as_ref().filter(|asked| asked.0 == file).map_or(&[][..], |asked| &asked.1);
+        let _ = fs::write(options.dump.join(file), bytes(words));
+    }
     let other = options.dump.join("other");
     dump(&other, case.other.board());
     println!("           the board is in {}, the one compared with in {}", options.dump.display(), other.display());
