@@ -159,22 +159,28 @@ fn declarations<'a>(text: &'a str, declared: &mut Declared<'a>) -> Result<(), St
     Ok(())
 }
 
-/// A number in decimal, or in parentheses a product of numbers and names.
+/// A number in decimal, a name, or a sum of products of these, which may stand in parentheses.
 fn expression(text: &str) -> Result<String, String> {
     let text = text.trim();
-    let factors = text.strip_prefix('(').and_then(|rest| rest.strip_suffix(')')).unwrap_or(text);
-    let mut made = Vec::new();
-    for factor in factors.split('*').map(str::trim) {
-        let digits = factor.strip_suffix('u').unwrap_or(factor);
-        let is_number = digits.parse::<u32>().is_ok_and(|number| number.to_string() == digits);
-        let is_name = factor.starts_with("TIRFOLMA_") && factor.bytes().all(|b| b == b'_' || b.is_ascii_uppercase());
-        match (is_number, is_name) {
-            (true, _) => made.push(digits),
-            (_, true) => made.push(factor),
-            _ => return Err(format!("'{text}' is no value that is known here")),
-        }
+    let sum = text.strip_prefix('(').and_then(|rest| rest.strip_suffix(')')).unwrap_or(text);
+    let product = |term: &str| -> Option<String> {
+        let factors: Option<Vec<&str>> = term.split('*').map(|factor| number_or_name(factor.trim())).collect();
+        Some(factors?.join(" * "))
+    };
+    let terms: Option<Vec<String>> = sum.split('+').map(product).collect();
+    Ok(terms.ok_or(format!("'{text}' is no value that is known here"))?.join(" + "))
+}
+
+/// As Rust has it.
+fn number_or_name(text: &str) -> Option<&str> {
+    let digits = text.strip_suffix('u').unwrap_or(text);
+    let is_number = digits.parse::<u32>().is_ok_and(|number| number.to_string() == digits);
+    let is_name = text.starts_with("TIRFOLMA_") && text.bytes().all(|b| b == b'_' || b.is_ascii_uppercase());
+    match (is_number, is_name) {
+        (true, _) => Some(digits),
+        (_, true) => Some(text),
+        _ => None,
     }
-    Ok(made.join(" * "))
 }
 
 /// A prototype, which gives a bool.

@@ -94,5 +94,6 @@ fn call(command: &'static Command, mut words: impl Iterator<Item = OsString>) ->
 /// A number in decimal digits alone.
 pub fn number(what: &str, word: &OsString) -> Result<usize, String> {
     let digits = word.to_str().filter(|text| !text.is_empty() && text.bytes().all(|b| b.is_ascii_digit()));
-    digits.and_then(|text| text.parse().ok()).ok_or(format!("{what} is a number, not {word:?}"))
+    let digits = digits.ok_or(format!("{what} is a number, not {word:?}"))?;
+    digits.parse().map_err(|_| format!("{what} is at most {}, not {digits}", usize::MAX))
 }

@@ -6,7 +6,7 @@ use crate::files::{Error, Files};
 use crate::folders::folders;
 use crate::json::{array, Object};
 use crate::library::header::*;
-use crate::library::{Answer, Report, Tables};
+use crate::library::{Answer, Refusal, Report, Tables};
 use crate::names::{hex_if_no_text, shown};
 use crate::output::{about, complain, finish, print, Progress, Status, TICK};
 use crate::queue::in_order;
@@ -166,6 +166,22 @@ pub fn answered(answer: Answer) -> String {
     }
 }
 
+/// What the other commands print of a refusal, with what is wrong in words.
+pub fn refused(refusal: Refusal, why: &str, json: bool) -> String {
+    match json {
+        true => {
+            Object::new()
+                .text("answer", "refused")
+                .number("number", refusal.number)
+                .number("passed", refusal.items)
+                .text("explanation", why)
+                .end()
+                + "\n"
+        }
+        false => format!("{}\n    {why}\n{NOTE}", answered(Answer::Refused(refusal))),
+    }
+}
+
 /// The ballot rows of an accepted board: main number, voter, weight.
 fn rows<'a>(report: &Report, tables: &'a Tables) -> impl Iterator<Item = [u32; 3]> + 'a {
     tables
@@ -203,7 +219,6 @@ pub fn named(folder: &Path) -> Object {
 fn object(folder: &Path, answer: Answer, files: &Files, tables: &Tables, options: &Options) -> String {
     let object = match answer {
         Answer::Accepted(report) => {
-            let end: String = report.end().iter().map(|word| format!("{word:08x}")).collect();
             let object = named(folder)
                 .text("answer", "accepted")
                 .number("items", report.items)
@@ -211,7 +226,7 @@ fn object(folder: &Path, answer: Answer, files: &Files, tables: &Tables, options
                 .number("ballots", report.ballots)
                 .number("weight", report.weight)
                 .text("curve", report.curve.name)
-                .text("end", &end);
+                .text("end", &report.end_in_hex());
             let row = |[ballot, voter, weight]: [u32; 3]| {
                 Object::new().number("ballot", ballot).number("voter", voter).number("weight", weight).end()
             };

@@ -111,14 +111,10 @@ impl<'a> Passed<'a> {
     /// accepts, and so its tables tell of them. None where that board would be too large: then there is no room for the closing word.
     pub fn of(board: Board<'a>, count: u32) -> Option<Passed<'a>> {
         let items = items(board.words, count as usize)?;
-        let end = items.last().map_or(0, Item::end);
         let mut tables = Tables::default();
         if count > 0 {
-            let mut words = board.words[..end].to_vec();
-            words.push(CLOSING << 28 | count);
-            let verdicts = board.verdicts.get(..VERDICT * items.len())?;
-            let begun = Board { words: &words, verdicts, roll: board.roll };
-            let Answer::Accepted(_) = library::audit(begun, &mut tables) else { return None };
+            let cut = Cut::of(board, &items)?;
+            let Answer::Accepted(_) = library::audit(cut.board(), &mut tables) else { return None };
         }
         Some(Passed { items, index: tables.index })
     }
@@ -160,6 +156,34 @@ impl<'a> Passed<'a> {
     }
     pub fn numbers(&self) -> std::ops::RangeInclusive<usize> {
         1..=self.count()
+    }
+    /// The main number of an item; none of a hidden one.
+    pub fn main(&self, number: usize) -> Option<usize> {
+        self.item(number).is_main().then(|| self.mains_before(number) + 1)
+    }
+    /// The first items up to one, in the order of the file.
+    pub fn up_to(&self, number: usize) -> &[Item<'a>] {
+        &self.items[..number]
+    }
+}
+
+/// A board cut behind some of its items: their words, a closing word with their number, the verdicts on them, and the same roll.
+pub struct Cut<'a> {
+    words: Vec<u32>,
+    verdicts: &'a [u32],
+    roll: &'a [u32],
+}
+
+impl<'a> Cut<'a> {
+    /// Of a board's first items. None where it has fewer verdicts.
+    pub fn of(board: Board<'a>, items: &[Item]) -> Option<Cut<'a>> {
+        let mut words = board.words[..items.last().map_or(0, Item::end)].to_vec();
+        words.push(CLOSING << 28 | items.len() as u32);
+        Some(Cut { words, verdicts: board.verdicts.get(..VERDICT * items.len())?, roll: board.roll })
+    }
+
+    pub fn board(&self) -> Board<'_> {
+        Board { words: &self.words, verdicts: self.verdicts, roll: self.roll }
     }
 }
 

@@ -1,17 +1,18 @@
-//! What is wrong with a refused board, in words. It is told from the files' words and the library's tables after the audit: the answer
-//! stands before anything here is read, and nothing here changes it.
+//! What is wrong with a refused board, or with a note that disagrees with an accepted one, in words. It is told from the files' words and
+//! the library's tables after the audit: the answer stands before anything here is read, and nothing here changes it.
 //!
 //! Each claim is tested on the words before it is made. Where none can be shown, what the refusal is about in general is said (`reasons`).
 
+mod beside;
 mod content;
 mod fields;
 mod heads;
 mod keys;
 mod links;
+mod notes;
 mod only;
 mod phases;
 mod reasons;
-mod receipts;
 pub(crate) mod refused;
 mod roll;
 mod sets;
@@ -21,8 +22,10 @@ pub(crate) mod widths;
 
 use crate::board::{items, Head, Item};
 use crate::files::{Files, Words};
-use crate::library::Refusal;
+use crate::library::{Board, Disagreement, Refusal};
+pub use beside::What;
 use refused::Refused;
+pub use text::start;
 
 /// Stands below explanations.
 pub const NOTE: &str =
@@ -30,7 +33,7 @@ pub const NOTE: &str =
 
 /// The numbers of the refusals, and what each is about.
 pub fn refusals() -> impl Iterator<Item = (u32, &'static str)> {
-    (1..=22).filter_map(|number| Some((number, reasons::of(number)?.wrong)))
+    (1..=23).filter_map(|number| Some((number, reasons::of(number)?.wrong)))
 }
 
 /// What is wrong in a few words, whatever the board.
@@ -48,10 +51,15 @@ pub fn explain(files: &Files, refusal: Refusal) -> String {
     detail(files, refusal).unwrap_or_else(|| general(files, refusal))
 }
 
-/// The same of receipts that were asked for beside a board: of their file, under its name, where that is what is wrong.
-pub fn explain_receipts(files: &Files, name: &str, receipts: &Words, refusal: Refusal) -> String {
-    let said = receipts::bad(files, name, receipts, refusal);
+/// The same of receipts or notes that were given beside a board: of their file, under its name, where that is what is wrong.
+pub fn explain_beside(files: &Files, name: &str, what: What, beside: &Words, refusal: Refusal) -> String {
+    let said = beside::bad(files, name, what, beside, refusal);
     said.map_or_else(|| explain(files, refusal), |said| said + ".")
+}
+
+/// What is wrong with a note that disagrees with a board which is accepted, and has left that index table: behind what the library says.
+pub fn explain_note(board: Board, index: &[u32], notes: &[u32], disagreement: Disagreement) -> String {
+    notes::disagreement(board, index, notes, disagreement)
 }
 
 /// What the words show; none where they don't.
@@ -104,6 +112,7 @@ fn general(files: &Files, refusal: Refusal) -> String {
     let what = match refusal.number {
         _ if reason.of_item => item_name(files, refusal.items),
         22 => "The file of receipts".to_string(),
+        23 => "The file of notes".to_string(),
         _ => "The board".to_string(),
     };
     format!("{what} is refused: {}. Look at {}.", reason.wrong, reason.look)

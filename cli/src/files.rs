@@ -1,4 +1,4 @@
-//! The three files of a board's folder, and a file of receipts, read as words: four bytes each, high byte first.
+//! The three files of a board's folder, and a file of receipts or notes, read as words: four bytes each, high byte first.
 
 use crate::library::header::TIRFOLMA_BOARD_WORDS;
 use crate::library::{self, Answer, Board, Refusal, Tables};
@@ -11,7 +11,7 @@ use std::path::{Path, PathBuf};
 pub const NAMES: [&str; 3] = ["board.words", "verdicts.words", "roll.words"];
 
 /// What is read of a file: one word more than a board may have. A board that has them is too large whatever follows, and no board of the
-/// library's limits has a use for as many verdicts or voters; nor are as many words ever the receipts that it answers at once.
+/// library's limits has a use for as many verdicts or voters; nor are as many words ever the receipts or the notes that it takes at once.
 const MOST_BYTES: u64 = 4 * (TIRFOLMA_BOARD_WORDS as u64 + 1);
 
 /// Linux's flag on x86-64: to open does not wait. It changes nothing for a regular file.

@@ -56,7 +56,15 @@ impl Curve {
     pub fn receipt(&self) -> usize {
         self.signature + self.address
     }
+
+    /// The words of a watcher's note: a time, and an address behind it.
+    pub fn note(&self) -> usize {
+        TIME + self.address
+    }
 }
+
+/// The words of a time, on every curve.
+pub const TIME: usize = 2;
 
 /// By their numbers. The widths: signature, commitment, cryptogram, address.
 pub static CURVES: [Curve; 3] = [
@@ -159,7 +167,7 @@ impl Format {
     pub fn part(self, part: Part) -> usize {
         match part {
             Part::Parent | Part::Previous | Part::Address => self.curve.address,
-            Part::Time => 2,
+            Part::Time => TIME,
             Part::Signature => self.curve.signature,
         }
     }

@@ -131,13 +131,52 @@ pub const COMMANDS: &[Command] = &[
         ],
     },
     Command {
+        name: "notes",
+        run: crate::notes::run,
+        operands: "DIR FILE",
+        takes: (2, 2),
+        about: "hold a watcher's notes against a board",
+        text: &[
+            "A watcher notes time and end address of a board each time that it looks. Audits the board and holds the notes in FILE against it. Prints 'agree' if each note's address is that of a main item, no note's main item is earlier than that of the note before, and no note's time is less than that item's. Else it prints one line for the first note of which this is not so: its number in the file, counted from 1, 'no main item', 'out of order' or 'too early', and behind a colon in words what helps to see why: no answer depends on that. With an address on two main items the first is meant. The same main item as that of the note before is in order, and the times of notes need not rise.",
+            "If all agree, the board cut at each noted item, as 'tirfolma cut' writes it, is accepted with the same roll and has the noted address as its end.",
+            "FILE has words of four bytes as a board's files have them, and a byte count that is no multiple of 4 is refused as 4 at 0, too. Each note is a time of two words, milliseconds since 1970 with the high word first, and then an address, as wide as on the board: 10 words on secp256r1, 14 on secp384r1, 18 on secp521r1. Other words than whole notes, and more than 1024 notes, are refused as 23 at 0, before the board is audited. More notes go in several files that each begin with the last note of the file before. A FILE without words has no notes, and all agree.",
+            "Where the board or FILE is refused it prints 'refused N at K', and says in words what is wrong, as audit --explain does: no answer depends on it.",
+        ],
+        options: &[JSON, HELP],
+        keys: &[
+            ("answer", "\"agree\", \"disagree\" or \"refused\""),
+            ("note, fault", "if they disagree: the number of the first note that does, and \"no main item\", \"out of order\" or \"too early\""),
+            ("number, passed", "if refused: the refusal, and how many items pass"),
+            ("explanation", "if they disagree or are refused: what is wrong, in words; no answer depends on it"),
+        ],
+    },
+    Command {
+        name: "cut",
+        run: crate::cut::run,
+        operands: "DIR MAIN OUT",
+        takes: (3, 3),
+        about: "write a board as it was up to a main item",
+        text: &[
+            "Audits the board and writes into the new folder OUT the board cut at its main item MAIN (which one has an address, 'tirfolma show' says): the items up to there in the order of the file, those of hidden tracks too, a closing word with their number, nine verdict words for each of them, and the same roll. The files have the names that they have in DIR. The library is proved to accept such a cut, with the address of that main item as its end: 'tirfolma compare OUT DIR MAIN' says 'same'.",
+            "Prints the numbers of items and main items of the cut and its end address, in hexadecimal digits. Of a refused board it prints 'refused N at K', says in words what is wrong, as audit --explain does, and writes nothing.",
+            "OUT must not be there yet, or be an empty folder: nothing is ever written over. Where a file can't be written, or the board has no main item MAIN, this is said on standard error, and none of the files stays; where only the answer can't be printed, they stay. A run that is killed may leave some in an OUT that was empty, or in a folder beside a new OUT, whose name begins with .tirfolma-.",
+        ],
+        options: &[JSON, HELP],
+        keys: &[
+            ("answer", "\"cut\" or \"refused\""),
+            ("items, mains, end", "if cut: items and main items of the cut, and the address of its last main item, 64, 96 or 128 hexadecimal digits, by the curve"),
+            ("number, passed", "if refused: the refusal, and how many items pass"),
+            ("explanation", "if refused: what is wrong, in words; no answer depends on it"),
+        ],
+    },
+    Command {
         name: "show",
         run: crate::show::run,
         operands: "DIR",
         takes: (1, 1),
         about: "show a board as a person reads it",
         text: &[
-            "Prints the auditor's answer, the board's traits word or that it has none, the curve, the hash and the widths by which it is read, and a line for each item: its number, main number, kind, type, time, the item numbers of its parent and its session, and for a ballot what closed it. Of a refused board, the item at which it is refused is marked by >, and what is wrong is said in words, as by audit --explain: no answer depends on it. Items after it were not audited: they are marked by ? and shown as far as their heads can be read. A - stands for what an item does not have, a ? for what the audit has not told of it.",
+            "Prints the auditor's answer, the board's traits word or that it has none, the curve, the hash and the widths by which it is read, and a line for each item: its number, main number, kind, type, time, the first 16 digits of its address, the item numbers of its parent and its session, and for a ballot what closed it. Of a refused board, the item at which it is refused is marked by >, and what is wrong is said in words, as by audit --explain: no answer depends on it. Items after it were not audited: they are marked by ? and shown as far as their heads can be read. A - stands for what an item does not have, a ? for what the audit has not told of it.",
         ],
         options: &[JSON, HELP],
         keys: &[
@@ -146,14 +185,14 @@ pub const COMMANDS: &[Command] = &[
             ("traits", "only where the first item has a traits word: that word, which chooses the curve and the width of sets of contests"),
             ("curve, hash", "by which the board is read: as \"secp384r1\" and \"SHA-384\"; without a traits word, and where that is refused, \"secp256r1\" and \"SHA-256\""),
             ("widths", "the same in words: an object with the keys address, signature, commitment, cryptogram and set (of contests)"),
-            ("list", "an array of objects with the keys item, main, kind, code, type, place (of the head, in words from 0), time (milliseconds), date, parent, session, closed_by, and state: \"passed\", \"refused\" or \"not audited\". null is what an item does not have, and of an item that did not pass what the audit has not told"),
+            ("list", "an array of objects with the keys item, main, kind, code, type, place (of the head, in words from 0), time (milliseconds), date, address (all its hexadecimal digits), parent, session, closed_by, and state: \"passed\", \"refused\" or \"not audited\". null is what an item does not have, and of an item that did not pass what the audit has not told"),
         ],
     },
 ];
 
 pub const EXIT: &[(&str, &str)] = &[
-    ("0", "Every board is accepted; for compare: same; for ancestry: listed; for receipts: each has a cast."),
-    ("1", "A board is refused; for compare also: apart, or a collision; for receipts also: one has no cast, or they are refused."),
+    ("0", "Every board is accepted; for compare: same; for ancestry: listed; for receipts: each has a cast; for notes: all agree; for cut: it is written."),
+    ("1", "A board is refused; for compare also: apart, or a collision; for receipts also: one has no cast, or they are refused; for notes also: one disagrees, or they are refused."),
     ("2", "Something could not be read or written, or the call was wrong; then there may also be boards that are refused."),
 ];
 
@@ -162,6 +201,11 @@ pub const EXAMPLES: &[(&str, &str)] = &[
     ("tirfolma audit --explain boards/0417", "Says in words what is wrong with a board."),
     ("tirfolma compare noon/0417 night/0417", "Holds the board of the night to the one that was kept at noon."),
     ("tirfolma receipts night/0417 receipts.words", "Says which main item of the board is the cast of each receipt."),
+    (
+        "tirfolma notes night/0417 notes.words",
+        "Says whether what a watcher noted during the vote agrees with the board.",
+    ),
+    ("tirfolma cut night/0417 120 noon", "Writes the board as it was up to its main item 120 into a new folder."),
     ("tirfolma audit --json boards | grep '\"answer\":\"refused\"'", "The refused boards, an object to a line."),
 ];
 

@@ -37,6 +37,14 @@ impl Object {
         }
     }
 
+    /// null where there is none.
+    pub fn text_or_null(self, key: &str, text: Option<String>) -> Object {
+        match text {
+            Some(text) => self.text(key, &text),
+            None => self.value(key, "null"),
+        }
+    }
+
     pub fn end(mut self) -> String {
         self.0.push('}');
         self.0

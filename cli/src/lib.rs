@@ -1,15 +1,17 @@
 //! `tirfolma`, the command: reads a board's files, has the proved library audit them, and prints what it says.
 //!
 //! `library` has the calls, and `files` the one rule about files; what the other parts do decides nothing about a board.
-//! Reading: `args`, `folders`, `files`. The commands: `audit` (over `queue`), `compare`, `ancestry`, `receipts`,
-//! `show`.
+//! Reading: `args`, `folders`, `files`, `beside`. Writing: `new_folder`. The commands: `audit` (over `queue`), `compare`, `ancestry`,
+//! `receipts`, `notes`, `cut`, `show`.
 //! For people: `explain`, `board`, `format`, `types`, `times`, `names`, `json`, `output`, `help`.
 
 pub mod ancestry;
 pub mod args;
 pub mod audit;
+pub mod beside;
 pub mod board;
 pub mod compare;
+pub mod cut;
 pub mod explain;
 pub mod files;
 pub mod folders;
@@ -18,6 +20,8 @@ pub mod help;
 pub mod json;
 pub mod library;
 pub mod names;
+pub mod new_folder;
+pub mod notes;
 pub mod output;
 pub mod queue;
 pub mod receipts;

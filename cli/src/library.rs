@@ -51,6 +51,15 @@ impl Report {
     pub fn end(&self) -> &[u32] {
         &self.end[..self.curve.address]
     }
+
+    pub fn end_in_hex(&self) -> String {
+        in_hex(self.end())
+    }
+}
+
+/// An address in hexadecimal digits, eight a word.
+pub fn in_hex(address: &[u32]) -> String {
+    address.iter().map(|word| format!("{word:08x}")).collect()
 }
 
 /// A refusal: its number, and the items that passed.
@@ -71,6 +80,27 @@ pub enum Comparison {
     },
     KeptRefused(Refusal),
     LaterRefused(Refusal),
+}
+
+/// A note that disagrees with a board.
+#[derive(Clone, Copy, Debug, PartialEq, Eq)]
+pub struct Disagreement {
+    /// Its number, from 1.
+    pub note: u32,
+    pub fault: Fault,
+    /// How many items the board has.
+    pub items: u32,
+}
+
+/// What is wrong with a note.
+#[derive(Clone, Copy, Debug, PartialEq, Eq)]
+pub enum Fault {
+    /// Its address is no main item's.
+    NoMainItem,
+    /// Its main item is earlier than that of the note before.
+    OutOfOrder,
+    /// Its time is less than that of its main item.
+    TooEarly,
 }
 
 /// What the functions give where an answer has fewer words than the header says.
@@ -174,4 +204,31 @@ pub fn receipts(board: Board, receipts: &[u32], tables: &mut Tables) -> Result<V
     let count = receipts.len() / Format::of(board.words).curve.receipt();
     let cast = |&word: &u32| Some(word).filter(|&word| word as usize != TIRFOLMA_NO_CAST);
     Ok(answers[..count].iter().map(cast).collect())
+}
+
+/// The first note that disagrees with the board; none where all agree.
+pub fn notes(board: Board, notes: &[u32], tables: &mut Tables) -> Result<Option<Disagreement>, Refusal> {
+    let mut answer = [0; TIRFOLMA_NOTES_ANSWER_WORDS];
+    let done = tirfolma_notes(
+        board.words,
+        board.verdicts,
+        board.roll,
+        notes,
+        &mut tables.index,
+        &mut tables.ballots,
+        &mut answer,
+    );
+    assert!(done, "{SHORT}");
+    let (number, items) = (answer[TIRFOLMA_NUMBER], answer[TIRFOLMA_ITEMS]);
+    if number != 0 {
+        return Err(Refusal { number, items });
+    }
+    let fault = match answer[TIRFOLMA_AGREEMENT] as usize {
+        TIRFOLMA_ALL_AGREE => return Ok(None),
+        TIRFOLMA_NO_MAIN_ITEM => Fault::NoMainItem,
+        TIRFOLMA_OUT_OF_ORDER => Fault::OutOfOrder,
+        TIRFOLMA_TOO_EARLY => Fault::TooEarly,
+        agreement => unreachable!("the library gives no agreement {agreement} with an accepted board"),
+    };
+    Ok(Some(Disagreement { note: answer[TIRFOLMA_FIRST_NOTE], fault, items }))
 }

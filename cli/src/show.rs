@@ -5,12 +5,12 @@ use crate::audit::{answered, named};
 use crate::board::{Head, Item, Passed, HIDDEN, MAIN};
 use crate::explain::refused::Refused;
 use crate::explain::widths::{set_words, wrong_traits};
-use crate::explain::{explain, is_about_item, reason, NOTE};
+use crate::explain::{explain, is_about_item, reason, start, NOTE};
 use crate::files::Files;
 use crate::format::{traits, Format, Members, TRAITS_PLACE};
 use crate::help::wrapped;
 use crate::json::{array, Object};
-use crate::library::{Answer, Refusal, Tables};
+use crate::library::{in_hex, Answer, Refusal, Tables};
 use crate::names::shown;
 use crate::output::{about, finish, Status};
 use crate::times::date;
@@ -28,12 +28,13 @@ enum State {
 }
 
 /// What is shown of an item. What it does not have, or the audit has not told, is none.
-struct Row {
+struct Row<'a> {
     item: usize,
     main: Option<usize>,
     head: Head,
     place: usize,
     time: Option<u64>,
+    address: Option<&'a [u32]>,
     parent: Option<usize>,
     session: Option<usize>,
     closer: Option<Closer>,
@@ -68,15 +69,15 @@ pub fn run(call: &Call) -> Result<Status, String> {
 // ---- the rows ----
 
 /// A row with what the words alone show.
-fn row(item: usize, main: Option<usize>, words: &[u32], place: usize, state: State) -> Row {
+fn row(item: usize, main: Option<usize>, words: &[u32], place: usize, state: State) -> Row<'_> {
     let whole = Item::at(words, place);
-    let time = whole.map(|item| item.time());
     Row {
         item,
         main,
         head: Head(words[place]),
         place,
-        time,
+        time: whole.map(|item| item.time()),
+        address: whole.map(|item| item.address()),
         parent: None,
         session: None,
         closer: None,
@@ -86,7 +87,7 @@ fn row(item: usize, main: Option<usize>, words: &[u32], place: usize, state: Sta
 }
 
 /// Items that passed, as the index table tells of them.
-fn passed(items: &Passed) -> Vec<Row> {
+fn passed<'a>(items: &Passed<'a>) -> Vec<Row<'a>> {
     let row = |number| {
         let item = items.item(number);
         let closer = match items.closer(number) {
@@ -95,10 +96,11 @@ fn passed(items: &Passed) -> Vec<Row> {
         };
         Row {
             item: number,
-            main: item.is_main().then(|| items.mains_before(number) + 1),
+            main: items.main(number),
             head: item.head(),
             place: item.place,
             time: Some(item.time()),
+            address: Some(item.address()),
             parent: Some(items.parent(number)).filter(|&parent| parent != number),
             session: items.session(number),
             closer,
@@ -110,7 +112,7 @@ fn passed(items: &Passed) -> Vec<Row> {
 }
 
 /// The items that passed, of a refused board.
-fn begun(files: &Files, count: u32) -> Vec<Row> {
+fn begun(files: &Files, count: u32) -> Vec<Row<'_>> {
     match Passed::of(files.words(), count) {
         Some(items) => passed(&items),
         None => filled(files, count),
@@ -118,7 +120,7 @@ fn begun(files: &Files, count: u32) -> Vec<Row> {
 }
 
 /// Items behind which no closing word fits: the table tells of all but the last, and its words tell under what that one stands.
-fn filled(files: &Files, count: u32) -> Vec<Row> {
+fn filled(files: &Files, count: u32) -> Vec<Row<'_>> {
     let Some(last) = count.checked_sub(1).and_then(|before| Refused::of(files.words(), before)) else {
         return Vec::new();
     };
@@ -137,7 +139,7 @@ fn filled(files: &Files, count: u32) -> Vec<Row> {
 }
 
 /// Of a refused board: the items that passed, then what the heads show of the others, as far as they can be read.
-fn refused(files: &Files, refusal: Refusal) -> Vec<Row> {
+fn refused(files: &Files, refusal: Refusal) -> Vec<Row<'_>> {
     let words = &files.board.words;
     let count = refusal.items as usize;
     let mut rows = begun(files, refusal.items);
@@ -183,7 +185,7 @@ fn item_is_wrong(files: &Files, refusal: Refusal) -> bool {
 fn page(folder: &Path, files: &Files, answer: Answer, rows: &[Row]) -> String {
     let mut text = format!("{}\t{}\n", shown(folder), answered(answer));
     text += &format_lines(&files.board.words);
-    text += "  item  main  kind    type               time                      parent  session  closed by\n";
+    text += "  item  main  kind    type               time                      address              parent  session  closed by\n";
     let (before, after) = rows.split_at(rows.iter().position(|row| row.state != State::Passed).unwrap_or(rows.len()));
     before.iter().for_each(|row| line(row, &mut text));
     if let Answer::Refused(refusal) = answer {
@@ -237,13 +239,14 @@ fn line(row: &Row, text: &mut String) {
     let told = |number: Option<usize>| number.map_or(none.to_string(), |number| number.to_string());
     let main = row.main.map_or("-".to_string(), |number| number.to_string());
     let time = row.time.map_or("-".to_string(), date);
+    let address = row.address.map_or("-".to_string(), start);
     let closer = match row.closer {
         Some(Closer::By(item, code)) => format!("{} {item}", name(code)),
         Some(Closer::Open) => "open".to_string(),
         None => String::new(),
     };
     let line = format!(
-        "{mark} {:4}  {:>4}  {:6}  {:17}  {time:24}  {:>6}  {:>7}  {closer}",
+        "{mark} {:4}  {:>4}  {:6}  {:17}  {time:24}  {address:19}  {:>6}  {:>7}  {closer}",
         row.item,
         main,
         kind(row.head),
@@ -299,19 +302,16 @@ fn item(row: &Row) -> String {
         Some(Closer::By(item, _)) => Some(item),
         _ => None,
     };
-    let object = Object::new()
+    Object::new()
         .number("item", row.item as u64)
         .number_or_null("main", row.main.map(|number| number as u64))
         .text("kind", &kind(row.head))
         .number("code", row.head.code())
         .text("type", &name(row.head.code()))
         .number("place", row.place as u64)
-        .number_or_null("time", row.time);
-    let object = match row.time {
-        Some(time) => object.text("date", &date(time)),
-        None => object.value("date", "null"),
-    };
-    object
+        .number_or_null("time", row.time)
+        .text_or_null("date", row.time.map(date))
+        .text_or_null("address", row.address.map(in_hex))
         .number_or_null("parent", row.parent.map(|number| number as u64))
         .number_or_null("session", row.session.map(|number| number as u64))
         .number_or_null("closed_by", closer.map(|number| number as u64))

@@ -6,7 +6,7 @@ use common::*;
 use std::fs;
 use tirfolma::help::{COMMANDS, EXIT};
 
-/// DIR stands for a good folder, FILE for one that has no receipts, '' for an empty word.
+/// DIR stands for a good folder, FILE for one that has no receipts and no notes, OUT for a folder that is not there, '' for an empty word.
 const WRONG: &[&str] = &[
     "",
     "''",
@@ -58,6 +58,32 @@ const WRONG: &[&str] = &[
     "receipts DIR ''",
     "receipts '' FILE",
     "receipts DIR -",
+    "notes",
+    "notes DIR",
+    "notes DIR FILE FILE",
+    "notes --explain DIR FILE",
+    "notes DIR ''",
+    "notes '' FILE",
+    "notes DIR -",
+    "cut",
+    "cut DIR",
+    "cut DIR 1",
+    "cut DIR 1 OUT OUT",
+    "cut --explain DIR 1 OUT",
+    "cut --rows DIR 1 OUT",
+    "cut DIR x OUT",
+    "cut DIR '' OUT",
+    "cut DIR 1 ''",
+    "cut '' 1 OUT",
+    "cut DIR OUT 1",
+    "cut DIR +1 OUT",
+    "cut DIR -1 OUT",
+    "cut DIR 0 OUT",
+    "cut DIR 43 OUT",
+    "cut DIR 99999999999999999999 OUT",
+    "cut DIR 1 DIR",
+    "cut DIR 1 FILE",
+    "cut FILE 1 OUT",
     "show",
     "show DIR DIR",
     "show --rows DIR",
@@ -69,11 +95,15 @@ fn wrong_calls() {
     let temp = Temp::new("wrong");
     let file = temp.join("receipts").display().to_string();
     fs::write(&file, []).expect("written");
-    assert_eq!(tirfolma(["receipts", &good, &file]).status, 0);
+    for command in ["receipts", "notes"] {
+        assert_eq!(tirfolma([command, &good, &file]).status, 0);
+    }
+    let out = temp.join("out").display().to_string();
     for call in WRONG {
         let words = call.split_whitespace().map(|word| match word {
             "DIR" => good.as_str(),
             "FILE" => file.as_str(),
+            "OUT" => out.as_str(),
             "''" => "",
             word => word,
         });
@@ -126,7 +156,7 @@ fn help() {
         _ => &["--json", "--help"],
     };
     let names: Vec<&str> = COMMANDS.iter().map(|command| command.name).collect();
-    assert_eq!(names, ["audit", "compare", "ancestry", "receipts", "show"]);
+    assert_eq!(names, ["audit", "compare", "ancestry", "receipts", "notes", "cut", "show"]);
     for name in names.iter().copied().chain([""]) {
         let text = help_of(name);
         let too_wide = text.lines().find(|line| line.chars().count() > 80);
@@ -293,9 +323,13 @@ fn completion() {
     assert_eq!(completed(&["tirfolma", "compare", "--"]), ["--json", "--help"]);
     assert_eq!(completed(&["tirfolma", "compare", "--r"]), [] as [&str; 0]);
     assert_eq!(completed(&["tirfolma", "audit", "so"]), ["some folder"]);
-    let mut offered = completed(&["tirfolma", "receipts", "other", "so"]);
-    offered.sort();
-    assert_eq!(offered, ["some file", "some folder"], "a file is asked for");
+    assert_eq!(completed(&["tirfolma", "cut", "so"]), ["some folder"]);
+    assert_eq!(completed(&["tirfolma", "cut", "--"]), ["--json", "--help"]);
+    for command in ["receipts", "notes"] {
+        let mut offered = completed(&["tirfolma", command, "other", "so"]);
+        offered.sort();
+        assert_eq!(offered, ["some file", "some folder"], "a file is asked for");
+    }
     let commands = completed(&["tirfolma", ""]);
     assert!(COMMANDS.iter().all(|command| commands.iter().any(|offered| offered == command.name)), "{commands:?}");
 }

@@ -185,6 +185,9 @@ fn an_empty_name_is_a_missing_folder() {
         &["compare", ".", ""],
         &["ancestry", "", "1"],
         &["receipts", "", NAMES[0]],
+        &["notes", "", NAMES[0]],
+        &["cut", "", "1", "out"],
+        &["cut", ".", "1", ""],
     ] {
         let mut command = std::process::Command::new(PROGRAM);
         command.current_dir(&here).args(words);
@@ -249,11 +252,16 @@ fn in_place_of_each(name: &str, put: impl Fn(&Path)) {
         ));
         ran.assert_failed(name);
         assert!(ran.errors().contains(&path), "{}", ran.errors());
-        let receipts = temp.join("receipts");
-        fs::write(&receipts, []).expect("written");
-        let ran = tirfolma(words_of(&["receipts"], [&folder, &receipts]));
+        let beside = temp.join("beside");
+        fs::write(&beside, []).expect("written");
+        for command in ["receipts", "notes"] {
+            let ran = tirfolma(words_of(&[command], [&folder, &beside]));
+            ran.assert_failed(name);
+            assert!(ran.errors().contains(&path), "{}", ran.errors());
+        }
+        let ran = tirfolma(words_of(&["cut"], [folder.as_path(), Path::new("1"), &temp.join("out")]));
         ran.assert_failed(name);
-        assert!(ran.errors().contains(&path), "{}", ran.errors());
+        assert!(ran.errors().contains(&path) && !temp.join("out").exists(), "{}", ran.errors());
     }
 }
 

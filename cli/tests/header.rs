@@ -86,7 +86,7 @@ fn compiles(header: &str, c: &str) -> Result<(), String> {
 #[test]
 fn the_compiler_agrees() {
     let declared = built();
-    assert!(declared.constants.len() > 30 && declared.functions.len() == 4);
+    assert!(declared.constants.len() > 30 && declared.functions.len() == 5);
     compiles(&header(), &in_c(&declared)).unwrap_or_else(|why| panic!("{why}"));
 }
 
@@ -132,6 +132,7 @@ fn parameters_are_in_the_order_of_the_calls() {
             "tirfolma_receipts",
             format!("{board} receipts receipt_words {tables} answers answers_words answer answer_words"),
         ),
+        ("tirfolma_notes", format!("{board} notes note_words {tables} answer answer_words")),
     ];
     let declared = built();
     let found: Vec<(&str, String)> = declared
@@ -143,10 +144,10 @@ fn parameters_are_in_the_order_of_the_calls() {
         })
         .collect();
     assert_eq!(found, right);
-    // What is only read is the boards and the receipts; a number follows each pointer.
+    // What is only read is the boards, the receipts and the notes; a number follows each pointer.
     for (name, parameters) in &declared.functions {
         for (at, (parameter, kind)) in parameters.iter().enumerate() {
-            let is_read = ["board", "kept", "later", "receipts"].contains(&parameter.as_str())
+            let is_read = ["board", "kept", "later", "receipts", "notes"].contains(&parameter.as_str())
                 || parameter.ends_with("verdicts")
                 || parameter.ends_with("roll");
             let is_number = parameter.ends_with("_words") || parameter.ends_with("_number");
@@ -173,9 +174,9 @@ fn made(text: &str) -> Result<Declared, String> {
         let value = line(&format!("pub const {name}: usize = "));
         let value = value.split(" = ").nth(1).and_then(|value| value.strip_suffix(';')).expect("a value");
         let known = |factor: &str| constants.iter().find(|known| known.0 == factor).map(|known| known.1);
-        let factors = value.split(" * ").map(|factor| factor.parse().ok().or(known(factor)).expect("a number"));
-        let product = factors.product();
-        constants.push((name, product));
+        let number = |factor: &str| -> u64 { factor.parse().ok().or(known(factor)).expect("a number") };
+        let sum = value.split(" + ").map(|term| term.split(" * ").map(number).product::<u64>()).sum();
+        constants.push((name, sum));
     }
     let mut functions = Vec::new();
     for part in line("pub const FUNCTIONS").split("(\"tirfolma_").skip(1) {
@@ -211,7 +212,23 @@ fn mistakes() -> Vec<(&'static str, &'static str, &'static str)> {
         ("a pointer to bool", "bool tirfolma_audit(", "bool *tirfolma_audit("),
         ("a constant", "TIRFOLMA_AUDIT_WORDS 22", "TIRFOLMA_AUDIT_WORDS 21"),
         ("a constant with a product", "(TIRFOLMA_BALLOT_ROW_WORDS * 408)", "(TIRFOLMA_BALLOT_ROW_WORDS * 409)"),
-        ("a sum", "(TIRFOLMA_ROLL_ROW_WORDS * 2048)", "(TIRFOLMA_ROLL_ROW_WORDS + 2048)"),
+        ("a sum for a product", "(TIRFOLMA_ROLL_ROW_WORDS * 2048)", "(TIRFOLMA_ROLL_ROW_WORDS + 2048)"),
+        (
+            "a constant with a sum",
+            "TIRFOLMA_FIRST_NOTE = TIRFOLMA_AUDIT_WORDS + 1",
+            "TIRFOLMA_FIRST_NOTE = TIRFOLMA_AUDIT_WORDS + 2",
+        ),
+        (
+            "a difference",
+            "TIRFOLMA_FIRST_NOTE = TIRFOLMA_AUDIT_WORDS + 1",
+            "TIRFOLMA_FIRST_NOTE = TIRFOLMA_AUDIT_WORDS - 1",
+        ),
+        (
+            "half a sum",
+            "TIRFOLMA_FIRST_NOTE = TIRFOLMA_AUDIT_WORDS + 1",
+            "TIRFOLMA_FIRST_NOTE = TIRFOLMA_AUDIT_WORDS +",
+        ),
+        ("a name for another", "TIRFOLMA_AGREEMENT = TIRFOLMA_AUDIT_WORDS", "TIRFOLMA_AGREEMENT = TIRFOLMA_END_WORDS"),
         ("an octal number", "TIRFOLMA_COMPARE_WORDS 6", "TIRFOLMA_COMPARE_WORDS 06"),
         ("a hexadecimal number", "TIRFOLMA_LIST_WORDS 2048", "TIRFOLMA_LIST_WORDS 0x800"),
         ("an enumerator", "TIRFOLMA_SAME = 2", "TIRFOLMA_SAME = 1"),
@@ -227,6 +244,8 @@ fn mistakes() -> Vec<(&'static str, &'static str, &'static str)> {
             "const uint32_t *receipts, size_t receipt_words",
             "uint32_t *receipts, size_t receipt_words",
         ),
+        ("notes for writing", "const uint32_t *notes, size_t note_words", "uint32_t *notes, size_t note_words"),
+        ("a note's words", "TIRFOLMA_NOTE_WORDS_384 14", "TIRFOLMA_NOTE_WORDS_384 12"),
         ("a receipt's words", "TIRFOLMA_RECEIPT_WORDS_521 49", "TIRFOLMA_RECEIPT_WORDS_521 48"),
         ("a comment without an end", "/* ---- ancestry */", "/* ---- ancestry"),
     ]

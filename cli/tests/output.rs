@@ -206,7 +206,17 @@ fn other_commands_have_the_documented_keys() {
     };
     let (one, none) = (file("one", 4 * 24), file("none", 4));
     let answered = [keys(&["receipts", &good, &one]), keys(&["receipts", &good, &none])].concat();
-    for (name, seen) in [("compare", compared), ("ancestry", listed), ("receipts", answered), ("show", shown)] {
+    let noted = [keys(&["notes", &good, &file("note", 4 * 10)]), keys(&["notes", &good, &none])].concat();
+    let out = temp.join("out").display().to_string();
+    let cut = [keys(&["cut", &bad, "1", &out]), keys(&["cut", &good, "1", &out])].concat();
+    for (name, seen) in [
+        ("compare", compared),
+        ("ancestry", listed),
+        ("receipts", answered),
+        ("notes", noted),
+        ("cut", cut),
+        ("show", shown),
+    ] {
         check_documented(name, &seen.iter().map(String::as_str).collect());
     }
 }
@@ -277,12 +287,15 @@ fn output_that_is_full() {
     let temp = Temp::new("full");
     let receipts = temp.join("receipts").display().to_string();
     fs::write(&receipts, [0; 4 * 24]).expect("written");
+    let notes = temp.join("notes").display().to_string();
+    fs::write(&notes, [0; 4 * 10]).expect("written");
     for words in [
         &["audit", &good][..],
         &["audit", "--json", "--summary", &good],
         &["compare", &good, &good],
         &["ancestry", &good, "9"],
         &["receipts", &good, &receipts],
+        &["notes", &good, &notes],
         &["--help"],
         &["--version"],
         &["--man"],
@@ -295,6 +308,29 @@ fn output_that_is_full() {
         ran.assert_message("a full device");
         let ran = run(shell("\"$@\" >/dev/full 2>&1", &all));
         assert_eq!(ran.status, 2, "{words:?}, no room for the message either");
+    }
+}
+
+/// The files of a cut stay where only its answer can't be printed: on a full device, with no room for the message either, and where the
+/// reader went away.
+#[test]
+fn a_cut_whose_answer_is_lost() {
+    let temp = Temp::new("lost");
+    let cut = |out: &str| words_of(&["cut"], [root().join("samples/election"), "16".into(), temp.join(out)]);
+    let files = |out: &str| NAMES.map(|name| fs::read(temp.join(out).join(name)).expect("a file"));
+    assert_eq!(tirfolma(cut("right")).status, 0);
+    let full = "tirfolma: standard output: No space left on device\n";
+    for (out, script, message) in [
+        ("full", "exec \"$@\" >/dev/full", full),
+        ("mute", "exec \"$@\" >/dev/full 2>&1", ""),
+        // The pipe has a reader only until it is open for writing.
+        ("closed", "mkfifo pipe; exec 3<>pipe 4>pipe 3<&-; exec \"$@\" >&4", ""),
+    ] {
+        let mut command = shell(script, [vec![PROGRAM.into()], cut(out)].concat());
+        command.current_dir(temp.path());
+        let ran = run(command);
+        assert_eq!((ran.status, ran.text(), ran.errors()), (2, "", message), "{out}");
+        assert!(files(out) == files("right"), "{out}: other files");
     }
 }
 

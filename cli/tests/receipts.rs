@@ -1,50 +1,30 @@
-//! `tirfolma receipts`, held to a plain search through the words of each board: receipts of every item, changed ones, as many as there may
-//! be and more, files that are no receipts or can't be read; and what is said in words of a refusal.
+//! `tirfolma receipts`, held to a plain search through the words of each board: receipts of every item, and changed ones. Files that are no
+//! receipts or can't be read are in beside.rs.
 
 #[path = "common/traits.rs"]
 mod boards;
 mod common;
+#[path = "common/items.rs"]
+mod items;
 #[path = "common/widths.rs"]
 mod widths;
 
 use boards::made;
 use common::json::objects;
 use common::*;
-use reference::format::{code, count, kind, CAST, CLOSING, MAIN, MAX_WORDS};
+use items::{items, Item};
+use reference::format::CAST;
 use reference::program::{bytes, words};
 use reference::sound::Traits;
 use std::collections::BTreeMap;
-use std::ffi::{OsStr, OsString};
-use std::fs::{self, Permissions};
-use std::os::unix::ffi::OsStrExt;
-use std::os::unix::fs::{symlink, PermissionsExt};
+use std::ffi::OsString;
+use std::fs;
 use std::path::{Path, PathBuf};
-use std::process::Command;
-use widths::{traits, Widths};
+use widths::Widths;
 
 /// The most receipts at once.
 const MOST: usize = 512;
 const NOTE: &str = "(Explanations are told from the words and, after an audit, its tables; no answer depends on them.)";
-
-/// An item of a board: its type, its main number if it has one, and its last words, which are those of a receipt.
-struct Item {
-    code: u32,
-    main: Option<u32>,
-    receipt: Vec<u32>,
-}
-
-fn items(board: &[u32]) -> Vec<Item> {
-    let (widths, mut place, mut mains, mut found) = (Widths::of(board), 0, 0, Vec::new());
-    while kind(board[place]) != CLOSING {
-        let (head, end) = (board[place], place + count(board[place]) + widths.frame());
-        let is_main = kind(head) == MAIN;
-        mains += u32::from(is_main);
-        let receipt = board[end - size(&widths)..end].to_vec();
-        found.push(Item { code: code(head), main: is_main.then_some(mains), receipt });
-        place = end;
-    }
-    found
-}
 
 /// The words of a receipt.
 fn size(widths: &Widths) -> usize {
@@ -199,297 +179,6 @@ fn nearly(cast: &Item, casts: &[&Item], widths: &Widths) -> Vec<Vec<u32>> {
     // The address of one, the signature of another.
     found.extend(other.map(|other| with(&|receipt| receipt[..signature].copy_from_slice(&other.receipt[..signature]))));
     found
-}
-
-/// The explanation of 22, as far as the board does not tell of another curve.
-fn other_words(file: &Path, words: usize, board: &[u32]) -> String {
-    let widths = Widths::of(board);
-    let size = size(&widths);
-    let counted = |number: usize, what: &str| format!("{number} {what}{}", if number == 1 { "" } else { "s" });
-    let whole = counted(words / size, "receipt");
-    let given = match (words / size, words % size) {
-        (0, _) => "less than a receipt".to_string(),
-        (_, 0) => format!("which are {whole}"),
-        (_, more) => format!("which are {whole} and {} more", counted(more, "word")),
-    };
-    format!(
-        "{} has {}, {given}: on this board, which is on {}, a receipt has {size} words, {} of signature and {} of \
-         address, and at most 512 may be asked at once, more in several files",
-        file.display(),
-        counted(words, "word"),
-        widths.curve,
-        widths.signature,
-        widths.address
-    )
-}
-
-/// Whether so many words are receipts of another curve.
-fn would_fit(words: usize, own: &Widths) -> Vec<&'static str> {
-    let others = [0, 2, 4].map(|word| Widths::of_traits(word).expect("a curve")).into_iter();
-    let fit = |other: &Widths| other.curve != own.curve && words % size(other) == 0 && words <= MOST * size(other);
-    others.filter(fit).map(|other| other.curve).collect()
-}
-
-/// One receipt, as many as there may be, one more, and words at their end that are none.
-#[test]
-fn how_many_there_may_be() {
-    let temp = Temp::new("many");
-    let file = temp.join("receipts");
-    let mut curves = Vec::new();
-    for name in ["election", "county", "nation", "genesis-alone", "tampered-ballot", "roll-not-rising"] {
-        let files = sample(name);
-        let board = words(&files[0]);
-        let widths = Widths::of(&board);
-        let size = size(&widths);
-        let folder = root().join("samples").join(name);
-        let asked = Asked { folder: &folder, files: &files, file: &file };
-        let is_accepted = expected(&files).starts_with("accepted");
-        let cast = items_or_none(&board, is_accepted).into_iter().find(|item| item.code == CAST);
-        let one = cast.map_or(vec![7; size], |cast| cast.receipt);
-        for number in [0, 1, 2, MOST - 1, MOST] {
-            assert_eq!(asked.check(&bytes(&one.repeat(number))).is_ok(), is_accepted, "{name}, {number} receipts");
-        }
-        let lengths = [1, size - 1, size + 1, 3 * size - 1, MOST * size - 1, MOST * size + 1, (MOST + 1) * size];
-        for length in lengths.into_iter().chain([2 * MOST * size, (MOST + 1) * size - 1]) {
-            let receipts = one.repeat(2 * MOST + 1)[..length].to_vec();
-            let why = asked.check(&bytes(&receipts)).expect_err("bad receipts");
-            let begins = other_words(&file, length, &board);
-            assert!(why.starts_with(&begins), "{name}: {why}\n{begins}");
-            let look = if length > MOST * size { "its size" } else { "how it was written" };
-            let rest = format!(". Look at {look}.");
-            assert_eq!(why[begins.len()..] == rest, would_fit(length, &widths).is_empty(), "{name}: {why}");
-        }
-        curves.push(widths.curve);
-    }
-    assert_eq!(curves[..3], ["secp256r1", "secp384r1", "secp521r1"]);
-}
-
-fn items_or_none(board: &[u32], is_accepted: bool) -> Vec<Item> {
-    if is_accepted {
-        items(board)
-    } else {
-        Vec::new()
-    }
-}
-
-/// Receipts of another curve's width are 22, with that curve named; where they are as many words as some of this board's, they are answered.
-#[test]
-fn receipts_of_other_widths() {
-    let temp = Temp::new("widths");
-    let file = temp.join("receipts");
-    let mut fit = 0;
-    for name in ["election", "federation", "county", "nation"] {
-        let files = sample(name);
-        let board = words(&files[0]);
-        let own = Widths::of(&board);
-        let folder = root().join("samples").join(name);
-        let asked = Asked { folder: &folder, files: &files, file: &file };
-        for (number, length) in [1, 2, 3, MOST].into_iter().flat_map(|n| [24, 36, 49].map(|size| (n, n * size))) {
-            let Err(why) = asked.check(&bytes(&vec![7; length])) else { continue };
-            let others = would_fit(length, &own);
-            assert!(!others.is_empty(), "{number} receipts of another curve");
-            let traits_word = match traits(&board) {
-                Some(word) => format!("the traits word, {word:08x} at word 18, byte 72"),
-                None => "item 1 (genesis), which has no traits word, so that the board is on secp256r1".to_string(),
-            };
-            let look = if length > MOST * size(&own) { "its size" } else { "how it was written" };
-            let right = format!(
-                "{}; {length} words would fit {}. Look at {look}, at whether the receipts are of this board, and at \
-                 {traits_word}.",
-                other_words(&file, length, &board),
-                others.join(", or ")
-            );
-            assert_eq!(why, right, "{name}");
-            fit += 1;
-        }
-        // Three of 24 words are two of 36.
-        let as_many = asked.check(&bytes(&[7; 72]));
-        assert_eq!(as_many.is_ok(), own.curve != "secp521r1", "{name}: {as_many:?}");
-    }
-    assert!(fit > 20, "only {fit}");
-}
-
-/// Refused boards, with the refusal and the curve that they are read by: too long, no board at all, with a traits word that is refused.
-fn refused_boards() -> [(&'static str, &'static str, Three); 6] {
-    let mut long = sample("nation");
-    long[0].resize(4 * (MAX_WORDS + 1), 0);
-    let mut traits = sample("nation");
-    traits[0][4 * 18 + 3] = 6;
-    let no_genesis = [bytes(&[0x1002_0000, 1, 2]), Vec::new(), Vec::new()];
-    [
-        ("1 at 0", "secp521r1", long),
-        ("4 at 0", "secp256r1", no_genesis),
-        ("3 at 0", "secp256r1", Default::default()),
-        ("7 at 0", "secp256r1", traits),
-        ("20 at 0", "secp256r1", sample("roll-not-rising")),
-        ("15 at 17", "secp256r1", sample("wrong-key")),
-    ]
-}
-
-#[test]
-fn bad_receipts_come_before_the_audit() {
-    let temp = Temp::new("before");
-    let file = temp.join("receipts");
-    for (refusal, curve, files) in &refused_boards() {
-        let folder = temp.board("board", files);
-        let asked = Asked { folder: &folder, files, file: &file };
-        assert_eq!(expected(files), format!("refused {refusal}\n"));
-        let size = size(&Widths::of(&words(&files[0])));
-        for number in [0, 1, MOST] {
-            let why = asked.check(&bytes(&vec![7; number * size])).expect_err("a refused board");
-            assert_eq!(why, audited(&folder), "what audit --explain says");
-        }
-        for length in [1, size + 1, (MOST + 1) * size] {
-            assert_eq!(right(files, &bytes(&vec![7; length])), Err("refused 22 at 0".to_string()));
-            let why = asked.check(&bytes(&vec![7; length])).expect_err("bad receipts");
-            assert!(why.contains(&format!("on this board, which is on {curve}, a receipt has {size} words")), "{why}");
-        }
-    }
-}
-
-/// Of a curve that the board would be on, were its traits word right; and where nothing tells the curve.
-#[test]
-fn receipts_of_other_widths_and_refused_boards() {
-    let temp = Temp::new("would");
-    let file = temp.join("receipts");
-    let [_, no_genesis, none, traits, ..] = &refused_boards();
-    let fit = |(_, _, files): &(&str, &str, Three)| {
-        let folder = temp.board("board", files);
-        let asked = Asked { folder: &folder, files, file: &file };
-        asked.check(&bytes(&[7; 49])).expect_err("receipts of another curve")
-    };
-    let why = fit(traits);
-    let wrong = "the traits word, 00000006 at word 18, byte 72: bits 1 and 2 give the number 3, which no curve has";
-    assert!(why.contains("; 49 words would fit secp521r1. ") && why.contains(wrong), "{why}");
-    for board in [no_genesis, none] {
-        let why = fit(board);
-        let look = ". Look at how it was written and at whether the receipts are of this board.";
-        assert!(why.ends_with(&format!("; 49 words would fit secp521r1{look}")), "{why}");
-    }
-}
-
-/// The explanation that audit gives of a refused board.
-fn audited(folder: &Path) -> String {
-    let ran = tirfolma(words_of(&["audit", "--explain", "--json"], [folder]));
-    objects(ran.text())[0].text("explanation").to_string()
-}
-
-/// The one rule about files holds for this one, too, and comes first.
-#[test]
-fn a_file_that_is_not_of_whole_words() {
-    let temp = Temp::new("odd");
-    let file = temp.join("receipts");
-    let name = file.display();
-    let end = "which is no multiple of 4: the last word is not whole. Look at how it was copied.";
-    let ends = "which are no multiples of 4: the last words are not whole. Look at how they were copied.";
-    for sample_name in ["election", "nation", "truncated"] {
-        let whole = sample(sample_name);
-        let folder = temp.board(sample_name, &whole);
-        for length in [1, 2, 3, 4 * 24 + 1, 4 * 24 * (MOST + 1) + 2, 4 * 24 * MOST + 3] {
-            let asked = Asked { folder: &folder, files: &whole, file: &file };
-            let why = asked.check(&vec![7; length]).expect_err("no whole words");
-            let bytes = if length == 1 { "byte" } else { "bytes" };
-            assert_eq!(why, format!("{name} has {length} {bytes}, {end}"));
-        }
-        let mut odd = whole.clone();
-        odd[1].push(0);
-        write(&folder, &odd);
-        let asked = Asked { folder: &folder, files: &odd, file: &file };
-        let verdicts = format!("verdicts.words has {} bytes", odd[1].len());
-        assert_eq!(asked.check(&[7; 5]), Err(format!("{verdicts} and {name} has 5 bytes, {ends}")));
-        // Also before bad receipts.
-        for length in [0, 4, 4 * 24] {
-            assert_eq!(asked.check(&vec![7; length]), Err(format!("{verdicts}, {end}")));
-        }
-    }
-}
-
-/// No answer, not even of the board, and a message that names the file.
-#[test]
-fn files_that_cannot_be_read() {
-    let temp = Temp::new("unread");
-    let at = |name: &str| temp.join(name);
-    fs::create_dir(at("folder")).expect("made");
-    write(&at("board"), &sample("election"));
-    symlink("nowhere", at("dangling")).expect("linked");
-    symlink("round", at("round")).expect("linked");
-    let made = run(shell("mkfifo \"$1\"", [at("pipe")]));
-    assert_eq!((made.status, made.errors()), (0, ""));
-    let mut files: Vec<PathBuf> =
-        ["missing", "missing/in", "folder", "board", "dangling", "round", "pipe"].map(at).into();
-    files.extend(["/dev/null", "/dev/zero", "/dev/tty", "/proc/self/mem", "/proc/version"].map(PathBuf::from));
-    for name in ["election", "wrong-key"] {
-        for file in &files {
-            for options in [&["receipts"][..], &["receipts", "--json"]] {
-                let folder = root().join("samples").join(name);
-                let ran = tirfolma(words_of(options, [&folder, file]));
-                ran.assert_failed(name);
-                assert!(ran.errors().contains(&file.display().to_string()), "{}", ran.errors());
-            }
-        }
-    }
-}
-
-#[test]
-fn a_file_that_is_closed() {
-    let temp = Temp::new("closed");
-    fs::set_permissions(temp.path(), Permissions::from_mode(0o755)).expect("opened");
-    let (folder, file) = (temp.board("board", &sample("election")), temp.join("receipts"));
-    fs::write(&file, []).expect("written");
-    let ask = || as_other(":", words_of(&["receipts"], [&folder, &file]));
-    assert_eq!((ask().status, ask().text()), (0, ""));
-    fs::set_permissions(&file, Permissions::from_mode(0o000)).expect("closed");
-    let ran = ask();
-    ran.assert_failed("a closed file");
-    assert!(ran.errors().to_lowercase().contains("permission denied"), "{}", ran.errors());
-}
-
-/// A name is a file's, whatever it looks like: - is not standard input, and what steers a terminal is not printed.
-#[test]
-fn names_of_files() {
-    let temp = Temp::new("names");
-    let folder = temp.board("board", &sample("election"));
-    let board = words(&sample("election")[0]);
-    let cast = items(&board).into_iter().find(|item| item.code == CAST).expect("a cast");
-    let asked = |name: &OsStr| {
-        let mut command = Command::new(PROGRAM);
-        command.current_dir(temp.path()).args(["receipts", "--"]).args([folder.as_os_str(), name]);
-        run(command)
-    };
-    for (name, shown) in [
-        (&b"-"[..], "-"),
-        (b"--json", "--json"),
-        (b"a b", "a b"),
-        (b"a\nb", "a\\nb"),
-        (b"a\x1b[31mb", "a\\x1b[31mb"),
-        (b"a\xffb", "a\\xffb"),
-    ] {
-        let name = OsStr::from_bytes(name);
-        let ran = asked(name);
-        ran.assert_failed(shown);
-        assert_eq!(ran.errors(), format!("tirfolma: {shown}: No such file or directory\n"));
-        fs::write(temp.join(name), bytes(&cast.receipt)).expect("written");
-        let ran = asked(name);
-        assert_eq!((ran.text(), ran.status), (format!("1 {}\n", cast.main.expect("a number")).as_str(), 0));
-        fs::write(temp.join(name), [7; 4]).expect("written");
-        let ran = asked(name);
-        assert!(ran.lines()[1].starts_with(&format!("    {shown} has 1 word, less than a receipt: ")), "{ran:?}");
-    }
-}
-
-/// A file of a GiB takes little memory, and is told by all its words.
-#[test]
-fn a_file_of_a_gib() {
-    let temp = Temp::new("gib");
-    let file = temp.join("receipts");
-    fs::File::create(&file).and_then(|file| file.set_len(1 << 30)).expect("made");
-    for name in ["election", "nation", "wrong-key"] {
-        let folder = root().join("samples").join(name);
-        let words = words_of(&[PROGRAM, "receipts"], [&folder, &file]);
-        let ran = run(shell("ulimit -v 300000 && exec \"$@\"", words));
-        assert_eq!((ran.lines()[0], ran.status, ran.errors()), ("refused 22 at 0", 1, ""));
-        assert!(ran.lines()[1].contains(" has 268435456 words, "), "{}", ran.text());
-    }
 }
 
 /// The sample of receipts says what its page says.

@@ -22,11 +22,24 @@ mod widths;
 use widths::{traits, Widths};
 
 const FILES: [&str; 3] = ["board.words", "verdicts.words", "roll.words"];
-const HEADING: [&str; 8] = ["item", "main", "kind", "type", "time", "parent", "session", "closed by"];
+const HEADING: [&str; 9] = ["item", "main", "kind", "type", "time", "address", "parent", "session", "closed by"];
 /// The keys of the object of an accepted board without a traits word, and those of an item.
 const BOARD_KEYS: [&str; 7] = ["folder", "answer", "passed", "curve", "hash", "widths", "list"];
-const KEYS: [&str; 12] =
-    ["item", "main", "kind", "code", "type", "place", "time", "date", "parent", "session", "closed_by", "state"];
+const KEYS: [&str; 13] = [
+    "item",
+    "main",
+    "kind",
+    "code",
+    "type",
+    "place",
+    "time",
+    "date",
+    "address",
+    "parent",
+    "session",
+    "closed_by",
+    "state",
+];
 
 // ---- folders and runs ----
 
@@ -98,6 +111,8 @@ struct Row {
     place: usize,
     /// None where the item is cut.
     time: Option<u64>,
+    /// Its hexadecimal digits; none where the item is cut, too.
+    address: Option<String>,
     parent: Option<usize>,
     session: Option<usize>,
     closer: Option<usize>,
@@ -171,7 +186,9 @@ fn by_heads(board: &[u32], passed: usize, at_fault: bool) -> Vec<Row> {
         let next = place + widths.frame() + count(head);
         let time = (next <= board.len()).then(|| time(board, place + 1 + count(head) + 2 * widths.address));
         let main = (kind(head) == MAIN).then_some(mains);
-        rows.push(Row { item, main, head, place, time, parent: None, session: None, closer: None });
+        let address = board.get(next - widths.address..next).filter(|_| time.is_some());
+        let address = address.map(|words| words.iter().map(|word| format!("{word:08x}")).collect());
+        rows.push(Row { item, main, head, place, time, address, parent: None, session: None, closer: None });
         if !readable {
             break;
         }
@@ -295,8 +312,9 @@ fn check_line(what: &str, line: &str, expected: &Expected, row: &Row) {
     assert!(line.starts_with(mark.expect("a mark").1), "{what}: the mark of an item that is {state}");
     let or_dash = |number: Option<usize>| number.map_or("-".to_string(), |number| number.to_string());
     let time = row.time.map_or("-".to_string(), date);
+    let address = row.address.as_ref().map_or("-".to_string(), |digits| format!("{}...", &digits[..16]));
     let mut wanted =
-        vec![row.item.to_string(), or_dash(row.main), kind_name(row.head), type_name(code(row.head)), time];
+        vec![row.item.to_string(), or_dash(row.main), kind_name(row.head), type_name(code(row.head)), time, address];
     let mut shown = columns(line);
     if state == "passed" {
         wanted.extend([or_dash(row.parent), or_dash(row.session)]);
@@ -308,7 +326,7 @@ fn check_line(what: &str, line: &str, expected: &Expected, row: &Row) {
             None => {}
         }
     } else {
-        let told = shown.split_off(5.min(shown.len()));
+        let told = shown.split_off(6.min(shown.len()));
         assert_eq!(told, ["?", "?"], "{what}: no parent and session");
     }
     assert_eq!(shown, wanted, "{what}");
@@ -499,6 +517,7 @@ fn check_item(what: &str, item: Value, expected: &Expected, row: &Row) {
         ("place", number_or_null(Some(row.place))),
         ("time", row.time.map_or(Value::Null, Value::Number)),
         ("date", row.time.map_or(Value::Null, |time| text(date(time)))),
+        ("address", row.address.as_ref().map_or(Value::Null, text)),
         ("parent", number_or_null(row.parent)),
         ("session", number_or_null(row.session)),
         ("closed_by", number_or_null(row.closer)),
@@ -744,7 +763,8 @@ fn well_known_dates() {
     ] {
         folder.write(genesis(time).board());
         let page = show(date, &folder.0, false, 0);
-        assert_eq!(page.lines().last().map(columns), Some(vec!["1", "1", "main", "genesis", date, "-", "-"]));
+        let columns = page.lines().last().map(columns).expect("a line");
+        assert_eq!((&columns[..5], &columns[6..]), (&["1", "1", "main", "genesis", date][..], &["-", "-"][..]));
         check(date, &folder.0);
     }
     folder.write(genesis(u64::MAX).board());
@@ -763,7 +783,7 @@ fn columns_stand_under_the_heading() {
             let (before, after) = line.split_at(begin(number) + number.len());
             assert!(!before.ends_with(' ') && (after.is_empty() || after.starts_with(' ')), "{number} of {line:?}");
         }
-        for name in ["kind", "type", "time", "closed by"] {
+        for name in ["kind", "type", "time", "address", "closed by"] {
             let Some((before, after)) = line.split_at_checked(begin(name)) else { continue };
             assert!(before.ends_with(' ') && !after.starts_with(' '), "{name} of {line:?}");
         }

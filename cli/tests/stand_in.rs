@@ -205,18 +205,143 @@ fn receipts_are_as_wide_as_the_board_says() {
     }
 }
 
+/// Two main items as the stand-in's index table has them: casts, each of an address of one word, eight times, and a time.
+fn two_items(temp: &Temp, items: [(u32, u32); 2]) {
+    let words = items.into_iter().flat_map(|(address, time)| {
+        let mut item = vec![0; 35];
+        (item[0], item[18]) = (0x1014_0000, time);
+        [item, vec![address; 8]].concat()
+    });
+    let bytes: Vec<u8> = words.chain([0xf000_0002]).flat_map(u32::to_be_bytes).collect();
+    fs::write(temp.join("kept/board.words"), bytes).expect("written");
+    fs::write(temp.join("kept/verdicts.words"), (0..4 * 9 * 2).collect::<Vec<u8>>()).expect("written");
+}
+
+/// An answer of an accepted board of two items, with the words for the agreement.
+fn held(agreement: u32, note: u32) -> String {
+    format!("0 2 2 0 0 0{} {agreement} {note}", " 0".repeat(16))
+}
+
+#[test]
+fn notes_are_answered_as_the_library_does() {
+    let temp = two_boards();
+    two_items(&temp, [(5, 100), (7, 200)]);
+    let note = |time: u32, address: u32| [vec![0, time], vec![address; 8]].concat();
+    let notes: Vec<u32> = [note(150, 7), note(150, 5), note(99, 9)].concat();
+    fs::write(temp.join("notes.words"), notes.iter().copied().flat_map(u32::to_be_bytes).collect::<Vec<u8>>())
+        .expect("written");
+    let call = ["notes", "kept", "notes.words"];
+    let index = ("STAND_IN_INDEX", "0 1 0 0 0 43 1 0 1 0");
+    let at = |time: &str| format!("1970-01-01T00:00:00.{time}Z");
+    let [first, second] = [format!("main item 1 (cast, {})", at("100")), format!("main item 2 (cast, {})", at("200"))];
+    let nowhere = format!("noted at {}, its address 0000000900000009... is on no item of the board", at("099"));
+    // What the words show is told; of what they don't, nothing is claimed. The number and the kind are as they are answered.
+    for (agreement, number, line) in [
+        (1, 0, "agree".to_string()),
+        (2, 3, format!("3 no main item: {nowhere}")),
+        (2, 1, "1 no main item: its address is no main item's".to_string()),
+        (2, 0, "0 no main item: its address is no main item's".to_string()),
+        (2, 4, "4 no main item: its address is no main item's".to_string()),
+        (3, 2, format!("2 out of order: noted at {}, its item is {first}, and that of note 1 is {second}", at("150"))),
+        (3, 1, "1 out of order: its main item is earlier than that of the note before".to_string()),
+        (3, 3, "3 out of order: its main item is earlier than that of the note before".to_string()),
+        (4, 1, format!("1 too early: noted at {}, before the time of its item, {second}", at("150"))),
+        (4, 2, "2 too early: its time is less than that of its main item".to_string()),
+        (4, 4294967295, "4294967295 too early: its time is less than that of its main item".to_string()),
+    ] {
+        let (ran, notes) = ask(&temp, &[("STAND_IN_HELD", &held(agreement, number)), index], &call);
+        let status = i32::from(agreement != 1);
+        assert_eq!((ran.text(), ran.status, ran.errors()), (format!("{line}\n").as_str(), status, ""));
+        let given = "board:87:269746176 verdicts:18:66051 roll:3:103 notes:30:0 index:10240 ballots:1224 answer:24";
+        assert_eq!(notes, format!("notes {given}\n"));
+    }
+    let (ran, _) = ask(&temp, &[("STAND_IN_HELD", &held(2, 3)), index], &[&call[..], &["--json"]].concat());
+    let right =
+        format!("{{\"answer\":\"disagree\",\"note\":3,\"fault\":\"no main item\",\"explanation\":\"{nowhere}\"}}\n");
+    assert_eq!((ran.text(), ran.status), (right.as_str(), 1));
+    // Of two main items with one address the first is meant.
+    two_items(&temp, [(7, 160), (7, 200)]);
+    let (ran, _) = ask(&temp, &[("STAND_IN_HELD", &held(4, 1)), index], &call);
+    assert!(ran.text().contains(&format!("its item, main item 1 (cast, {})", at("160"))), "{}", ran.text());
+    for number in (1..=16).chain([18, 20, 21, 23]) {
+        let (ran, _) = ask(&temp, &[("STAND_IN_HELD", &format!("{number} 7"))], &call);
+        assert_eq!((ran.lines()[0], ran.status), (format!("refused {number} at 7").as_str(), 1));
+        assert!(ran.lines()[1].starts_with("    ") && ran.lines().len() == 3, "{}", ran.text());
+    }
+    let (ran, _) = ask(&temp, &[("STAND_IN_HELD", "23 0")], &call);
+    let general = "The file of notes is refused: bad notes: not whole ones, or more than 1024. \
+                   Look at the size of the file of notes.";
+    assert_eq!(ran.lines()[1].trim(), general);
+}
+
+/// The answer of a board of two items, both main.
+const BOARD: &str = "0 2 2 0 0 0 0 0 0 0 0 0 0 0 0 0 0 0 0 0 0 0";
+
+/// Which item a main number is the index table tells, and what is printed is the library's answer of the cut.
+#[test]
+fn a_cut_is_where_the_index_table_says() {
+    let temp = two_boards();
+    two_items(&temp, [(5, 100), (7, 200)]);
+    let accepted = |main: &str| format!("0 77 {main} 0 0 0 1 2 3 4 5 6 7 8 9 0 0 0 0 0 0 0");
+    for (index, main, items) in [
+        ("0 1 0 0 0 43 1 0 1 0", "1", 1),
+        ("0 1 0 0 0 43 1 0 1 0", "2", 2),
+        ("0 1 0 5 0 43 1 0 0 0", "1", 2),
+        ("0 1 0 5 0 43 1 0 0 0", "6", 1),
+    ] {
+        let answers = [("STAND_IN_AUDIT", BOARD), ("STAND_IN_SECOND", &accepted(main)), ("STAND_IN_INDEX", index)];
+        let (ran, notes) = ask(&temp, &answers, &["cut", "kept", main, "out"]);
+        let end = "0000000100000002000000030000000400000005000000060000000700000008";
+        assert_eq!((ran.text(), ran.status, ran.errors()), (format!("77 {main} {end}\n").as_str(), 0, ""), "{main}");
+        let given = |words: usize, verdicts: usize| {
+            format!("audit board:{words}:269746176 verdicts:{verdicts}:66051 roll:3:103 index:10240 ballots:1224 answer:22\n")
+        };
+        assert_eq!(notes, given(87, 18) + &given(43 * items + 1, 9 * items));
+        let read = |folder: &str, name: &str| fs::read(temp.join(folder).join(name)).expect("a file");
+        let mut board = read("kept", NAMES[0])[..4 * 43 * items].to_vec();
+        board.extend([0xf0, 0, 0, items as u8]);
+        assert_eq!((read("out", NAMES[0]), read("out", NAMES[2])), (board, read("kept", NAMES[2])));
+        assert_eq!(read("out", NAMES[1]), read("kept", NAMES[1])[..4 * 9 * items]);
+        fs::remove_dir_all(temp.join("out")).expect("removed");
+    }
+}
+
+/// Of a cut that is refused, or has other main items than were asked for, nothing is written.
+#[test]
+fn a_cut_that_is_not_what_it_must_be() {
+    let temp = two_boards();
+    two_items(&temp, [(5, 100), (7, 200)]);
+    let index = ("STAND_IN_INDEX", "0 1 0 0 0 43 1 0 1 0");
+    for (second, said) in [
+        ("0 1 2 0 0 0", "accepted 1 2 0 0"),
+        ("0 1 0 0 0 0", "accepted 1 0 0 0"),
+        ("0 1 4294967295 0 0 0", "accepted 1 4294967295 0 0"),
+        ("18 1 0 0 0 0", "refused 18 at 1"),
+    ] {
+        let answers = [("STAND_IN_AUDIT", BOARD), ("STAND_IN_SECOND", second), index];
+        let (ran, _) = ask(&temp, &answers, &["cut", "kept", "1", "out"]);
+        ran.assert_failed(second);
+        let fault = "this is a fault of the program, not of the board";
+        assert_eq!(ran.errors(), format!("tirfolma: the cut at main item 1 is {said}: {fault}\n"));
+        assert!(!temp.join("out").exists(), "{second}");
+    }
+}
+
 /// What the header says never happens is an error, not an answer.
 #[test]
 fn a_library_that_does_not_answer() {
     let temp = two_boards();
     let audit = ("STAND_IN_AUDIT", "0 9 8 0 0 0 1 1 1 1 1 1 1 1");
     fs::write(temp.join("receipts"), []).expect("written");
-    let cases: [(Answers, &[&str]); 5] = [
+    let cases: [(Answers, &[&str]); 8] = [
         (&[], &["audit", "kept"]),
         (&[audit], &["compare", "kept", "later"]),
         (&[audit, ("STAND_IN_COMPARE", "4 0 0 0 0 0")], &["compare", "kept", "later"]),
         (&[audit], &["ancestry", "kept", "1"]),
         (&[audit], &["receipts", "kept", "receipts"]),
+        (&[audit], &["notes", "kept", "receipts"]),
+        (&[("STAND_IN_HELD", &held(0, 0))], &["notes", "kept", "receipts"]),
+        (&[("STAND_IN_HELD", &held(5, 1))], &["notes", "kept", "receipts"]),
     ];
     for (answers, words) in cases {
         let (ran, _) = ask(&temp, answers, words);
@@ -240,15 +365,18 @@ fn the_library_is_not_asked_in_vain() {
     fs::write(temp.join("later/roll.words"), [0; 5]).expect("written");
     let (ran, _) = ask(&temp, &[sound, same], &["compare", "kept", "later"]);
     assert_eq!((ran.text(), ran.status), ("later refused 4 at 0\n", 1));
-    let others = [("STAND_IN_ANCESTRY", "0 0"), ("STAND_IN_RECEIPTS", "0 0")];
+    let others = [("STAND_IN_ANCESTRY", "0 0"), ("STAND_IN_RECEIPTS", "0 0"), ("STAND_IN_HELD", "0 0")];
     for words in [
         &["audit", "later"][..],
         &["ancestry", "later", "1"],
         &["compare", "later", "kept"],
         &["receipts", "later", "receipts"],
         &["receipts", "kept", "odd"],
+        &["notes", "later", "receipts"],
+        &["notes", "kept", "odd"],
+        &["cut", "later", "1", "out"],
     ] {
-        let (ran, notes) = ask(&temp, &[sound, same, others[0], others[1]], words);
+        let (ran, notes) = ask(&temp, &[&[sound, same], &others[..]].concat(), words);
         assert!(ran.text().contains("refused 4 at 0\n"), "{words:?}: {}", ran.text());
         assert_eq!((notes.as_str(), ran.status), ("", 1), "{words:?}");
     }

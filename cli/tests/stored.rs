@@ -1,5 +1,5 @@
 //! The stored boards: on each the program says what the auditor prints, and of a folder without a file that it was not audited. The stored
-//! comparisons and receipts: of each it says what is expected.
+//! comparisons, receipts and notes: of each it says what is expected.
 
 mod common;
 
@@ -148,15 +148,22 @@ fn each_comparison_is_answered_as_expected() {
     assert_eq!(answers, ["apart", "kept", "later", "same"].map(String::from).into());
 }
 
+/// What a line of `expected` has behind its key.
+fn stored_line(folder: &Path, key: &str) -> String {
+    let text = fs::read_to_string(folder.join("expected")).expect("what is expected is stored");
+    let found = text.lines().find_map(|line| line.strip_prefix(key));
+    found.unwrap_or_else(|| panic!("no {key}in {text}")).to_string()
+}
+
 /// What is printed first of stored receipts: a line for each, or the refusal. None where a buffer is too short, which the program's is not.
 fn answered(folder: &Path) -> Option<String> {
-    let text = fs::read_to_string(folder.join("expected")).expect("what is expected is stored");
-    let found = |key: &str| text.lines().find_map(|line| line.strip_prefix(key)).unwrap_or_else(|| panic!("{text}"));
-    let (number, items) = found("answer ").split_once(' ').expect("two numbers");
+    let answer = stored_line(folder, "answer ");
+    let (number, items) = answer.split_once(' ').expect("two numbers");
     match number {
         "0" => {
             // Behind the answers the buffer has zeros.
-            let mains = found("answers").split_whitespace().take_while(|&word| word != "0").enumerate();
+            let answers = stored_line(folder, "answers");
+            let mains = answers.split_whitespace().take_while(|&word| word != "0").enumerate();
             let line = |(at, main)| format!("{} {}\n", at + 1, if main == "4294967295" { "none" } else { main });
             Some(mains.map(line).collect())
         }
@@ -190,4 +197,34 @@ fn each_receipt_is_answered_as_expected() {
         }
     }
     assert!(statuses[0] > 0 && statuses[1] > 20 && refused.contains("22"), "{statuses:?}, {refused:?}");
+}
+
+/// What is printed first of stored notes: the refusal, that they agree, or what stands before the colon.
+fn held(folder: &Path) -> String {
+    let answer = stored_line(folder, "answer ");
+    match (answer.split_once(' ').expect("two numbers"), stored_line(folder, "notes ").as_str()) {
+        (("0", _), "all agree") => "agree\n".to_string(),
+        (("0", _), disagreement) => format!("{disagreement}: "),
+        ((number, items), _) => format!("refused {number} at {items}\n"),
+    }
+}
+
+#[test]
+fn each_note_is_answered_as_expected() {
+    let temp = Temp::new("held");
+    let file = temp.join("notes.words");
+    let mut answers = BTreeSet::new();
+    for folder in stored("tests/notes") {
+        let board = temp.board("board", &read(&folder));
+        fs::write(&file, fs::read(folder.join("notes.words")).unwrap_or_default()).expect("written");
+        let ran = tirfolma(words_of(&["notes"], [&board, &file]));
+        let right = held(&folder);
+        assert_eq!((ran.status, ran.errors()), (i32::from(right != "agree\n"), ""), "{}", folder.display());
+        assert!(ran.text().starts_with(&right), "{}: {}", folder.display(), ran.text());
+        assert_eq!(ran.lines().len(), if right.starts_with("refused") { 3 } else { 1 }, "{}", folder.display());
+        answers.insert(right.trim_start_matches(|c: char| c.is_ascii_digit()).to_string());
+    }
+    for answer in ["agree\n", " no main item: ", " out of order: ", " too early: ", "refused 23 at 0\n"] {
+        assert!(answers.contains(answer), "{answer:?} is not among {answers:?}");
+    }
 }

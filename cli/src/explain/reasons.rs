@@ -44,6 +44,7 @@ pub fn of(number: u32) -> Option<Reason> {
         20 => ("bad roll", "the size and the order of roll.words"),
         21 => ("its voter is not on the roll with its weight", "its first two content words, and roll.words"),
         22 => ("bad receipts: not whole ones, or more than 512", "the size of the file of receipts"),
+        23 => ("bad notes: not whole ones, or more than 1024", "the size of the file of notes"),
         _ => return None,
     };
     Some(Reason { wrong, look, of_item })

@@ -279,12 +279,12 @@ fn ends_of_files() {
 /// Every number has a reason, and each refusal its own.
 #[test]
 fn reasons() {
-    let mut reasons: Vec<&str> = (1..=22).filter(|&number| number != 17).map(reason).collect();
+    let mut reasons: Vec<&str> = (1..=23).filter(|&number| number != 17).map(reason).collect();
     reasons.push(reason(17));
-    assert_eq!([0, 17, 23, u32::MAX].map(reason), ["no refusal has this number"; 4]);
+    assert_eq!([0, 17, 24, u32::MAX].map(reason), ["no refusal has this number"; 4]);
     reasons.sort();
     reasons.dedup();
-    assert_eq!(reasons.len(), 22);
+    assert_eq!(reasons.len(), 23);
 }
 
 /// A sound board is refused for nothing that can be shown, but for what only a hash tells.
