@@ -2,6 +2,7 @@
 #ifndef BOARDS_H
 #define BOARDS_H
 
+#include <stdbool.h>
 #include <stdio.h>
 #include <stdlib.h>
 #include <time.h>
@@ -67,6 +68,21 @@ static inline const struct curve *curve_of(const struct words *words)
     bool told = words->count > 18 && words->at[0] == 0x10010012;
     uint32_t number = told ? words->at[18] >> 1 : 0;
     return number < sizeof curves / sizeof curves[0] ? &curves[number] : &curves[0];
+}
+
+/* What an item says: its type, whether it is a main item, and where its parts stand. The words before its signature are hashed. */
+struct item {
+    uint32_t type;
+    bool is_main;
+    const uint32_t *head, *time, *signature, *address;
+};
+
+/* Item k of an accepted board, from 0 on. */
+static inline struct item item_at(const struct words *words, const struct curve *curve, const struct left *left, size_t k)
+{
+    const uint32_t *head = words->at + left->index[TIRFOLMA_INDEX_ROW_WORDS * k + TIRFOLMA_ROW_PLACE];
+    const uint32_t *time = head + 1 + (*head & 0xffff) + 2 * curve->address;
+    return (struct item){*head >> 16 & 0xfff, *head >> 28 == 1, head, time, time + 2, time + 2 + curve->signature};
 }
 
 /* The processor time of this thread, in microseconds: other programs on the machine count little. */

@@ -2,7 +2,6 @@
    Ends with status 1 where the audit takes more than BAR times as long; with 2 where a board is not accepted, or plain C's hash of an item is
    not its address. */
 #define _POSIX_C_SOURCE 199309L
-#include <stdbool.h>
 #include <string.h>
 
 #include "boards.h"
@@ -27,33 +26,30 @@ static const struct hash *hash_of(const struct curve *curve)
 
 /* ---- the items */
 
-/* Where an item's hashed words begin, how many they are, and where its address stands. */
-struct item {
-    size_t place, hashed, address;
-};
-
 /* The items of an accepted board, by its index table. */
 static size_t items_of(const struct words *words, const struct curve *curve, const struct left *left, struct item *items)
 {
     size_t count = left->answer[TIRFOLMA_ITEMS];
-    for (size_t k = 0; k < count; k++) {
-        size_t place = left->index[TIRFOLMA_INDEX_ROW_WORDS * k + TIRFOLMA_ROW_PLACE];
-        /* head, content, parent, previous, time */
-        size_t hashed = 1 + (words->at[place] & 0xffff) + 2 * curve->address + 2;
-        items[k] = (struct item){place, hashed, place + hashed + curve->signature};
-    }
+    for (size_t k = 0; k < count; k++)
+        items[k] = item_at(words, curve, left, k);
     return count;
 }
 
+/* How many of an item's words are hashed. */
+static size_t hashed(const struct item *item)
+{
+    return (size_t)(item->signature - item->head);
+}
+
 /* The time of the hashes of all items. */
-static double hash_all(const struct words *words, const struct curve *curve, const struct item *items, size_t count)
+static double hash_all(const struct curve *curve, const struct item *items, size_t count)
 {
     const struct hash *hash = hash_of(curve);
     uint32_t digest[16];
     double start = now();
     for (size_t k = 0; k < count; k++) {
-        hash->of(words->at + items[k].place, items[k].hashed, digest);
-        if (digest[0] != words->at[items[k].address])
+        hash->of(items[k].head, hashed(&items[k]), digest);
+        if (digest[0] != *items[k].address)
             exit(2);
     }
     return now() - start;
@@ -76,8 +72,8 @@ static bool row(const char *folder, double bar)
     size_t count = items_of(&board.words, curve, &left, items);
     for (size_t k = 0; k < count; k++) {
         uint32_t digest[16];
-        hash_of(curve)->of(board.words.at + items[k].place, items[k].hashed, digest);
-        if (memcmp(digest, board.words.at + items[k].address, curve->address * sizeof digest[0]) != 0) {
+        hash_of(curve)->of(items[k].head, hashed(&items[k]), digest);
+        if (memcmp(digest, items[k].address, curve->address * sizeof digest[0]) != 0) {
             fprintf(stderr, "%s: item %zu does not have its hash by plain C\n", folder, k + 1);
             exit(2);
         }
@@ -85,7 +81,7 @@ static bool row(const char *folder, double bar)
     double audit = 1e9, hashes = 1e9;
     int runs = 0;
     while (runs < RUNS || (audit / hashes > bar && runs < MOST_RUNS)) {
-        double took = hash_all(&board.words, curve, items, count);
+        double took = hash_all(curve, items, count);
         hashes = took < hashes ? took : hashes;
         took = timed(tirfolma_audit, &board, &left);
         audit = took < audit ? took : audit;

@@ -2,7 +2,6 @@
    Ends with status 1 where it takes more than BAR times as long; with 2 where a board is not accepted, or an answer is not that of a search for
    its receipt alone. */
 #define _POSIX_C_SOURCE 199309L
-#include <stdbool.h>
 #include <string.h>
 
 #include "boards.h"
@@ -19,19 +18,6 @@ static size_t receipt_words(const struct curve *curve)
 
 /* ---- the receipts */
 
-/* What an item says: its type, whether it is a main item, and where its signature and the address behind it stand. */
-struct item {
-    uint32_t type;
-    bool is_main;
-    const uint32_t *receipt;
-};
-
-static struct item item_at(const struct words *words, const struct curve *curve, const struct left *left, size_t k)
-{
-    const uint32_t *head = words->at + left->index[TIRFOLMA_INDEX_ROW_WORDS * k + TIRFOLMA_ROW_PLACE];
-    return (struct item){*head >> 16 & 0xfff, *head >> 28 == 1, head + 1 + (*head & 0xffff) + 2 * curve->address + 2};
-}
-
 /* Writes the receipts: of casts, and of other items where there are fewer casts, from the board's end on. */
 static void receipts_of_all(const struct words *words, const struct curve *curve, const struct left *left, uint32_t *receipts)
 {
@@ -40,7 +26,7 @@ static void receipts_of_all(const struct words *words, const struct curve *curve
         for (size_t k = count; k > 0 && made < TIRFOLMA_RECEIPTS; k--) {
             struct item item = item_at(words, curve, left, k - 1);
             if ((item.type == CAST) == casts)
-                memcpy(receipts + size * made++, item.receipt, size * sizeof *receipts);
+                memcpy(receipts + size * made++, item.signature, size * sizeof *receipts);
         }
 }
 
@@ -52,7 +38,7 @@ static void receipts_of_one(const struct words *words, const struct curve *curve
         last--;
     struct item item = item_at(words, curve, left, last - 1);
     for (size_t k = 0; k < TIRFOLMA_RECEIPTS; k++) {
-        memcpy(receipts + size * k, item.receipt, size * sizeof *receipts);
+        memcpy(receipts + size * k, item.signature, size * sizeof *receipts);
         receipts[size * k] ^= (uint32_t)k + 1;
     }
 }
@@ -67,7 +53,7 @@ static bool are_right(const struct words *words, const struct curve *curve, cons
         for (size_t k = 0; k < left->answer[TIRFOLMA_ITEMS] && found == TIRFOLMA_NO_CAST; k++) {
             struct item item = item_at(words, curve, left, k);
             mains += item.is_main;
-            if (item.type == CAST && memcmp(item.receipt, receipts + size * r, size * sizeof *receipts) == 0)
+            if (item.type == CAST && memcmp(item.signature, receipts + size * r, size * sizeof *receipts) == 0)
                 found = mains;
         }
         if (answers[r] != found)
