@@ -5,7 +5,7 @@
      is 0, the pointer is not followed; it may not be null, so pass the address of any word.
    - A buffer that is lent for writing overlaps no other buffer of the call. Those that are only read may overlap.
    - No other thread writes a buffer, or reads one that is lent for writing, during the call.
-   - The stack has room: an audit takes some 38 KiB of it, answering receipts or holding notes some 14 KiB more, and ancestry,
+   - The stack has room: an audit takes some 38 KiB of it, answering receipts or holding notes some 14 KiB more, a plan less than 1 KiB, and ancestry,
      which calls itself for each parent, up to 130 KiB more.
    The functions keep nothing, allocate nothing, and may be called from several threads at once. */
 #ifndef TIRFOLMA_H
@@ -273,6 +273,43 @@ bool tirfolma_notes(
     const uint32_t *notes, size_t note_words,
     uint32_t *index, size_t index_words,
     uint32_t *ballots, size_t ballot_words,
+    uint32_t *answer, size_t answer_words);
+
+/* ---- plan */
+
+#define TIRFOLMA_PLAN_WORDS 4
+
+/* Where the answer's words stand. Of a refusal the last two are 0. */
+enum {
+    TIRFOLMA_PLAN_NUMBER = 0,      /* 0: planned; 1, 3, 4, 5, 6 or 18: the refusal */
+    TIRFOLMA_PLAN_ITEMS = 1,       /* items; of a refusal, those whose heads passed */
+    TIRFOLMA_PLAN_INDEX_WORDS = 2, /* words of the index table that their rows fill, TIRFOLMA_INDEX_ROW_WORDS each */
+    TIRFOLMA_PLAN_BLOCKS = 3       /* blocks over which their addresses are hashed, each message padded as FIPS 180-4 says: blocks of 64 bytes
+                                      on secp256r1, of 128 on secp384r1 and secp521r1 */
+};
+
+/* Plans the audit of a board: the number of its items, the words that their rows fill in the index table, and the blocks of their addresses,
+   from the heads of the items alone, without hashing. The widths are read as for tirfolma_audit. Refused is, the first that applies:
+     1    more than 262144 words; also a word that is not a closing word behind 2048 items
+     3    a board of no words, or one that begins with a closing word
+     5    of each head in turn: a kind or a type that is not listed
+     6    a count of content words that is not in the table
+     4    an item that runs past the end; also a board without a closing word
+     18   a closing word with another number than that of the items, or words behind it
+   No verdict words, roll or tables have a part in it, so it never answers 2, 14 or 20.
+
+   A board that tirfolma_audit accepts is planned, with the same number of items. What tirfolma_audit refuses by 1, 3, 4, 5 or 6 is refused
+   here by the same number, after as many items; by 18 likewise, unless only verdict words were left over. Behind an item that it refuses by
+   7 to 16 or 21, heads are still read here: such a board may be planned, or refused further on. A board that is refused here is never
+   accepted. `Related` in crates/planning/specs/Plan.antt says it whole. The blocks are those of addresses: an audit also hashes the contents
+   of the counted ballots, where a fingerprint of them stands on the board.
+
+   True: the first 4 words of the answer are as above, of a refusal too, and the words behind them are as they were.
+   False: the answer has fewer than 4 words, and none is written.
+
+   Contract: `Planned` in crates/abi/specs/Written.antt. */
+bool tirfolma_plan(
+    const uint32_t *board, size_t board_words,
     uint32_t *answer, size_t answer_words);
 
 #ifdef __cplusplus

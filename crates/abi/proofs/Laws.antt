@@ -15,14 +15,17 @@ use Rattle.model.specs.Comparing.{ComparingAnswer, comparingAnswer, laterIndexA
 use Rattle.model.specs.Ancestry.{AncestryAnswer, ancestryAnswer, listAfter}
 use Rattle.model.specs.Receipts.{answersAfter}
 use Rattle.watch.specs.Notes.{agreement}
+use Rattle.planning.specs.Plan as planning
+use Rattle.plan.specs.declared.Plan.{Plan}
+use Rattle.plan.specs.Planned.{planned}
 use Rattle.compare.specs.declared.Comparison.{Comparison}
 use Rattle.compare.specs.Answer as comparing
 use Rattle.ancestry.specs.declared.Listing.{Listing}
 use Rattle.ancestry.specs.Answer as listing
 use Rattle.notes.specs.declared.Agreement.{Agreement}
 use Rattle.notes.specs.Holding.{agreementOf}
-use Rattle.answers.specs.Words.{answerWords, auditSize, overwritten, compareSize, comparisonWords, ancestrySize, listingWords, notesSize, heldWords}
-use Rattle.abi.specs.Written.{hasRoom, AuditWritten, ComparisonWritten, ListingWritten, AnswersWritten, HeldWritten}
+use Rattle.answers.specs.Words.{answerWords, auditSize, overwritten, compareSize, comparisonWords, ancestrySize, listingWords, notesSize, heldWords, planSize, planWords}
+use Rattle.abi.specs.Written.{hasRoom, AuditWritten, ComparisonWritten, ListingWritten, AnswersWritten, HeldWritten, PlanWritten}
 
 module _ (f : Format) (outcome : Outcome) (index ballots answer : List ℕ) where
   -- no room for the answer
@@ -93,3 +96,15 @@ module _ (f : Format) (notes : List ℕ) (outcome : Outcome) (index ballots answ
   held-told h r told a agreed ei eb ew =
       let yes : hasRoom notesSize answer ≡ true = le-leb notesSize (length answer) h in
       record { is = sym yes; words = rw yes (ew ∙ rw (told, agreed)); indexRows = rw yes ei; ballotRows = rw yes eb }
+
+module _ (board answer : List ℕ) where
+  pub planned-short : length answer < planSize → PlanWritten board answer false answer
+  planned-short h =
+      let no : hasRoom planSize answer ≡ false = lt-leb planSize (length answer) h in
+      record { is = sym no; words = rw no }
+
+  pub planned-told : planSize ≤ length answer → (p : Plan) → planned p ≡ planning.plan board
+      → {a : List ℕ} → a ≡ overwritten (planWords (planned p)) answer → PlanWritten board answer true a
+  planned-told h p told ea =
+      let yes : hasRoom planSize answer ≡ true = le-leb planSize (length answer) h in
+      record { is = sym yes; words = rw yes (ea ∙ ap (λ (x : planning.Plan). overwritten (planWords x) answer) told) }

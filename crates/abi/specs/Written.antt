@@ -13,12 +13,13 @@ use Rattle.model.specs.Comparing.{comparingAnswer, laterIndexAfter, laterBallot
 use Rattle.model.specs.Ancestry.{ancestryAnswer, listAfter}
 use Rattle.model.specs.Receipts.{answersAfter}
 use Rattle.watch.specs.Notes.{agreement}
+use Rattle.planning.specs.Plan.{plan}
 use Rattle.format.specs.Format.{formatOf}
 use Rattle.audit.specs.Outcome.{Slice, outcomeOf}
 use Rattle.entries.specs.Listing.{listingOutcome}
 use Rattle.entries.specs.Answering.{receiptsOutcome}
 use Rattle.entries.specs.Watching.{notesOutcome}
-use Rattle.answers.specs.Words.{overwritten, auditSize, answerWords, compareSize, comparisonWords, ancestrySize, listingWords, notesSize, heldWords}
+use Rattle.answers.specs.Words.{overwritten, auditSize, answerWords, compareSize, comparisonWords, ancestrySize, listingWords, notesSize, heldWords, planSize, planWords}
 
 -- a slice that an entry writes: its words at entry and at exit
 abbrev pub Buffer : Type 0
@@ -120,3 +121,15 @@ Held board verdicts roll notes index ballots answer told =
     HeldWritten (formatOf (now (board .entry))) (now (notes .entry)) (notesOutcome board verdicts roll notes index ballots)
     (now (index .entry)) (now (ballots .entry)) (now (answer .entry)) told
     (now (index .exit)) (now (ballots .exit)) (now (answer .exit))
+
+-- ---- plan
+
+-- Of the board. With room for the answer: true, and the words of the plan over the first of the buffer. Without: false, and every word as it
+-- was.
+pub record PlanWritten (board answer : List ℕ) (told : Bool) (answer′ : List ℕ) : Type 0 where
+  pub is : told ≡ hasRoom planSize answer
+  pub words : answer′ ≡ cond (hasRoom planSize answer) (overwritten (planWords (plan board)) answer) answer
+
+-- of what the caller passed
+abbrev pub Planned : {A : Type 0} → Slice A → Buffer → Bool → Type 0
+Planned board answer told = PlanWritten (now (board .entry)) (now (answer .entry)) told (now (answer .exit))

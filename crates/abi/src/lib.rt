@@ -1,11 +1,12 @@
 // The auditor for programs in C and Rust. A caller outside Rattle is checked by nothing, so an entry requires nothing: it refuses.
 // include/tirfolma.h has the same for the caller.
-ghost use Rattle.abi.specs.Written.{Audited, Compared, Listed, Answered, Held};
+ghost use Rattle.abi.specs.Written.{Audited, Compared, Listed, Answered, Held, Planned};
 use answers::Size;
 use entries::answering;
 use entries::comparing;
 use entries::listing;
 use entries::watching;
+use plan::Plan;
 
 // Audits a board with its verdict words and the roll of its voters, writes the report into the first 22 words of the answer and the rows
 // into the tables, and returns true, of a refusal too. Where the answer is shorter, returns false and writes nothing.
@@ -134,5 +135,19 @@ pub extern "C" fn tirfolma_notes(
     let held = watching::notes(board, verdicts, roll, notes, index, ballots);
     let agreement = held.agreement;
     answers::put_held(held.report, agreement, answer);
+    true
+}
+
+// Plans a board: writes the number of its items, the words of their index rows and the blocks of their addresses, or the refusal, into the
+// first 4 words of the answer, and returns true. Where the answer is shorter, returns false and writes nothing.
+#[no_mangle]
+pub extern "C" fn tirfolma_plan(board: &[u32], answer: &mut [u32]) -> bool
+    ensures { λ r. ⌜ Planned board answer r ⌝ }
+{
+    if answer.len() < Size::PLAN {
+        return false;
+    }
+    let plan = Plan::of(board);
+    answers::put_plan(plan, answer);
     true
 }

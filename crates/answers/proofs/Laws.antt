@@ -14,8 +14,9 @@ use Rattle.model.specs.Compare.{apart, same, collision}
 use Rattle.model.specs.Comparing.{ComparingAnswer, refusedBoard, compared}
 use Rattle.model.specs.Ancestry.{AncestryAnswer, unlisted, listed}
 use Rattle.watch.specs.Notes.{Agreement, notHeld, allAgree, disagrees}
+use Rattle.planning.specs.Plan.{Plan}
 use Rattle.words.proofs.Writing.{sets-append, sets-first}
-use Rattle.answers.specs.Words.{headWords, answerWords, headOf, auditSize, overwritten, compareSize, comparisonWords, ancestrySize, listingWords, notesSize, agreementWords, heldWords}
+use Rattle.answers.specs.Words.{headWords, answerWords, headOf, auditSize, overwritten, compareSize, comparisonWords, ancestrySize, listingWords, notesSize, agreementWords, heldWords, planSize, planWords}
 
 -- ---- the words of a report
 
@@ -60,6 +61,10 @@ pub length-listingWords : (a : AncestryAnswer) → length (listingWords a) ≡ a
 unfolding listingWords
 length-listingWords (unlisted n k) = refl
 length-listingWords (listed m) = refl
+
+pub length-planWords : (p : Plan) → length (planWords p) ≡ planSize
+unfolding planWords
+length-planWords p = refl
 
 -- ---- behind a report, what notes say
 

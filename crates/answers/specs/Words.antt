@@ -7,6 +7,7 @@ use Rattle.model.specs.Compare.{apart, same, collision}
 use Rattle.model.specs.Comparing.{Board, keptBoard, laterBoard, ComparingAnswer, refusedBoard, compared}
 use Rattle.model.specs.Ancestry.{AncestryAnswer, unlisted, listed}
 use Rattle.watch.specs.Notes.{Disagreement, noMainItem, outOfOrder, tooEarly, Agreement, notHeld, allAgree, disagrees}
+use Rattle.planning.specs.Plan.{Plan}
 use Rattle.report.specs.declared.Answer.{Answer}
 use Rattle.report.specs.Reported.{answered}
 
@@ -79,3 +80,12 @@ agreementWords (disagrees n d) = wayWord d ∷ n ∷ []
 -- behind the words of a report
 abbrev pub heldWords : Report → Agreement → List ℕ
 heldWords r a = answerWords r ++ agreementWords a
+
+-- ---- plan
+
+abbrev pub planSize : ℕ
+planSize = 4
+
+-- number, items, words of their index rows, and blocks of their addresses
+unfoldable pub planWords : Plan → List ℕ
+planWords p = p .number ∷ p .items ∷ p .indexWords ∷ p .blocks ∷ []

@@ -8,12 +8,14 @@ ghost use Rattle.ancestry.specs.Answer as listed;
 ghost use Rattle.notes.specs.Holding.{wayOf, agreementOf};
 ghost use Rattle.answers.specs.Words.{overwritten, auditSize, headOf, answerWords};
 ghost use Rattle.answers.specs.Words.{compareSize, boardWord, comparisonWords, ancestrySize, listingWords};
-ghost use Rattle.answers.specs.Words.{notesSize, wayWord, agreementWords, heldWords};
+ghost use Rattle.plan.specs.Planned.{planned};
+ghost use Rattle.answers.specs.Words.{notesSize, wayWord, agreementWords, heldWords, planSize, planWords};
 use ancestry::Listing;
 use compare::Board;
 use compare::Comparison;
 use notes::Agreement;
 use notes::Disagreement;
+use plan::Plan;
 use report::Answer;
 use report::Report;
 
@@ -31,6 +33,8 @@ impl Size {
     pub const ANCESTRY: usize = 2;
 
     pub const NOTES: usize = Size::AUDIT + 2;
+
+    pub const PLAN: usize = 4;
 }
 
 // The high word of a number of two words.
@@ -170,4 +174,27 @@ pub fn put_held(report: Report, agreement: Agreement, buffer: &mut [u32])
     put_report(report, buffer);
     let words = agreement_words(agreement);
     words::put(&words, buffer, Size::AUDIT);
+}
+
+// Number, items, words of their index rows, and blocks of their addresses.
+fn plan_words(plan: Plan) -> [u32; 4]
+    ensures { λ r. ⌜ r ≡ planWords (planned plan) ⌝ }
+{
+    match plan {
+        Plan::Accepted {
+            items,
+            index_words,
+            blocks,
+        } => [0, items, index_words, blocks],
+        Plan::Refused { refusal, items } => [refusal::number_of(refusal), items, 0, 0],
+    }
+}
+
+// Writes the words of a plan over the first of a buffer.
+pub fn put_plan(plan: Plan, buffer: &mut [u32])
+    requires { ⌜ planSize ≤ length (now buffer) ⌝ }
+    ensures { λ _. ⌜ now (buffer .exit) ≡ overwritten (planWords (planned plan)) (now (buffer .entry)) ⌝ }
+{
+    let words = plan_words(plan);
+    words::put(&words, buffer, 0);
 }

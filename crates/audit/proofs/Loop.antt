@@ -3,22 +3,21 @@ use Prim.Native.Nat.{ℕ, _-_, _≤_, _<_, zero-le}
 use native.Mathlib.Omega.{arith}
 use native.Mathlib.Numerals.{add-one}
 use mathlib.Core.Path.{_≡_, refl, sym, ap, _∙_}
-use mathlib.Core.Bool.{true, not}
+use mathlib.Core.Bool.{not}
 use mathlib.Core.List.{List, []}
 use lib.ListN.{length, getD}
-use lib.Dec.{T, eqb}
-use borrow.Author.Tests.{eq-eqb, ne-eqb}
+use lib.Dec.{T}
 use Rattle.model.specs.Lists.{keep, latest}
 use Rattle.model.specs.Words.{kindOf, isClosing}
 use Rattle.model.specs.Refusal.{noFault, tooLarge, truncated}
 use Rattle.model.specs.History.{placeOf, history}
 use Rattle.model.specs.Counted.{counted}
 use Rattle.model.specs.Roll.{onRoll}
-use Rattle.model.specs.Audit.{Outcome, refused, closing, closingOk, items, itemLimit, isEmpty}
+use Rattle.model.specs.Audit.{Outcome, refused, closing, closingOk, fault, items, itemLimit}
 use Rattle.model.specs.Report.{reportOf, indexRows, ballotRows, filled}
 use Rattle.model.specs.Sound.{Passed}
 use Rattle.model.proofs.Tests.{eq→eqb, ne→neqb, by-if}
-use Rattle.model.proofs.Steps.{itemsFrom, items-start, items-ended, items-closing, items-full, items-refused, items-passed}
+use Rattle.model.proofs.Steps.{itemsFrom, from-start, from-ended, from-closing, from-full, from-refused, from-passed}
 use Rattle.model.proofs.Unchecked.{length-history}
 use Rattle.refusal.specs.Number.{numberOf, foundOf}
 use Rattle.refusal.specs.declared.Refusal.{Refusal}
@@ -37,15 +36,6 @@ use Rattle.step.specs.declared.Step.{Step}
 use Rattle.step.specs.Steps.{Reached, Stepped}
 use Rattle.report.specs.Reported.{reported}
 use Rattle.audit.specs.Tables.{Sized, Zeros, Holds}
-
--- ---- 3
-
-module _ (board : List ℕ) where
-  pub empty-none : length board ≡ 0 → true ≡ isEmpty board
-  empty-none q = rw (eq-eqb _ _ q)
-
-  pub empty-first : (length board ≡ 0 → ⊥) → (head : Head) → head ≡ headOf (getD board 0 0) → eqb (head .kind) 15 ≡ isEmpty board
-  empty-first q head is = rw (ne-eqb _ _ q, is)
 
 -- ---- before the first item
 
@@ -97,7 +87,7 @@ module _ (board verdicts roll : List ℕ) where
       parents = rw none (chains .0);
       sessions = rw none (chains .1);
     };
-    same = rw none (items-start (formatOf board) (onRoll roll) board verdicts);
+    same = rw none (from-start (formatOf board) board (closingOk board verdicts) (fault (formatOf board) (onRoll roll) board verdicts));
     index-size = refl;
     ballots-size = refl;
     parents-size = refl;
@@ -106,7 +96,7 @@ module _ (board verdicts roll : List ℕ) where
 
   -- the tables at the closing word
   closing-holds : (index ballots : List ℕ) (n p : ℕ) → Kept board index n → Tallied board ballots n
-      → Holds board (closing (formatOf board) board verdicts (before board n) p) index ballots
+      → Holds board (closing (closingOk board verdicts (before board n) p) (before board n)) index ballots
   unfolding closing
   closing-holds index ballots n p kept tallied =
       let Goal : Outcome → Type 0 = λ o. Holds board o index ballots in
@@ -134,16 +124,16 @@ module _ (board verdicts roll : List ℕ) where
 
     pub stop-ended : length board ≤ s .place → (r : Report) → reported r ≡ reportOf (formatOf board) (refused truncated (s .items)) → Ran r index ballots
     stop-ended l r told =
-        stopped _ (items-ended (formatOf board) (onRoll roll) board verdicts (s .items) (rw place-is at l)) r told index ballots (holds-here truncated)
+        stopped _ (from-ended (formatOf board) board (closingOk board verdicts) (fault (formatOf board) (onRoll roll) board verdicts) (s .items) (rw place-is at l)) r told index ballots (holds-here truncated)
 
     module _ (there : s .place < length board) {head : Head} (is : head ≡ headOf (getD board (s .place) 0)) where
       kind-is : head .kind ≡ kindOf (getD board (placeOf (formatOf board) board (s .items)) 0)
       kind-is = ap (λ (h : Head). h .kind) is ∙ rw place-is
 
       pub stop-closing : head .kind ≡ 15 → (r : Report)
-          → reported r ≡ reportOf (formatOf board) (closing (formatOf board) board verdicts (before board (s .items)) (s .place)) → Ran r index ballots
+          → reported r ≡ reportOf (formatOf board) (closing (closingOk board verdicts (before board (s .items)) (s .place)) (before board (s .items))) → Ran r index ballots
       stop-closing k r told =
-          stopped _ (items-closing (formatOf board) (onRoll roll) board verdicts (s .items) (rw place-is at there) (eq→eqb _ _ (sym kind-is ∙ k))) r (rw place-is at told) index ballots
+          stopped _ (from-closing (formatOf board) board (closingOk board verdicts) (fault (formatOf board) (onRoll roll) board verdicts) (s .items) (rw place-is at there) (eq→eqb _ _ (sym kind-is ∙ k))) r (rw place-is at told) index ballots
           (closing-holds index ballots (s .items) _ (g .reached .kept) (g .reached .tallied))
 
       module _ (head-word : head .kind ≡ 15 → ⊥) where
@@ -152,7 +142,7 @@ module _ (board verdicts roll : List ℕ) where
 
         pub stop-full : s .items ≡ 2048 → (r : Report) → reported r ≡ reportOf (formatOf board) (refused tooLarge (s .items)) → Ran r index ballots
         stop-full q r told =
-            stopped _ (items-full (formatOf board) (onRoll roll) board verdicts (s .items) (rw place-is at there) item-word (omega arith)) r told index ballots (holds-here tooLarge)
+            stopped _ (from-full (formatOf board) board (closingOk board verdicts) (fault (formatOf board) (onRoll roll) board verdicts) (s .items) (rw place-is at there) item-word (omega arith)) r told index ballots (holds-here tooLarge)
 
         module _ (few : s .items < itemLimit) {index′ ballots′ parents′ sessions′ : List ℕ} {step : Step}
             (stepped : Stepped board verdicts roll index ballots parents sessions index′ ballots′ parents′ sessions′ s step) where
@@ -163,7 +153,7 @@ module _ (board verdicts roll : List ℕ) where
               let fails : numberOf x ≡ noFault → ⊥ = λ n. absurd (omega (arith, number-some x)) in
               let (stay, same-index, same-ballots, same-parents, same-sessions) = stepped .failed (λ n. fails (sym number ∙ n)) in
               rw (same-index, same-ballots)
-              (stopped _ (items-refused (formatOf board) (onRoll roll) board verdicts (s .items) (rw place-is at there) item-word few (numberOf x) (rw place-is at (sym (stepped .finding) ∙ number)) fails)
+              (stopped _ (from-refused (formatOf board) board (closingOk board verdicts) (fault (formatOf board) (onRoll roll) board verdicts) (s .items) (rw place-is at there) item-word few (numberOf x) (rw place-is at (sym (stepped .finding) ∙ number)) fails)
               r told index ballots (holds-here (numberOf x)))
 
           pub going-on : step .finding ≡ Passes → length index′ ≡ length index → length ballots′ ≡ length ballots
@@ -174,7 +164,7 @@ module _ (board verdicts roll : List ℕ) where
               let (next, reached) = stepped .passed none in
               record {
                 reached = reached;
-                same = g .same ∙ items-passed (formatOf board) (onRoll roll) board verdicts (s .items) (rw place-is at there) item-word few (rw place-is at (sym (stepped .finding) ∙ none)) ∙ rw (next, add-one);
+                same = g .same ∙ from-passed (formatOf board) board (closingOk board verdicts) (fault (formatOf board) (onRoll roll) board verdicts) (s .items) (rw place-is at there) item-word few (rw place-is at (sym (stepped .finding) ∙ none)) ∙ rw (next, add-one);
                 index-size = li ∙ g .index-size;
                 ballots-size = lb ∙ g .ballots-size;
                 parents-size = lp ∙ g .parents-size;

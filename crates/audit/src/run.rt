@@ -1,7 +1,6 @@
 // The items in their order, up to the first refusal or the closing word.
 ghost use mathlib.Core.Path.{_≡_};
 ghost use Rattle.model.specs.Roll.{GoodRoll};
-ghost use Rattle.model.specs.Audit.{isEmpty};
 ghost use Rattle.model.specs.Report.{reportOf, indexAfter, ballotsAfter};
 ghost use Rattle.format.specs.Format.{formatOf};
 ghost use Rattle.lookup.specs.Buckets.{parentChain, sessionChain};
@@ -9,6 +8,7 @@ ghost use Rattle.report.specs.Reported.{reported};
 ghost use Rattle.audit.specs.Outcome.{itemsOutcome, outcomeOf};
 ghost use Rattle.audit.specs.Tables.{Sized, Zeros, Holds};
 use chains::Chain;
+use format::board;
 use format::head::Head;
 use format::limit::Limit;
 use refusal::Finding;
@@ -16,16 +16,6 @@ use refusal::Refusal;
 use report::Answer;
 use report::Report;
 use state::State;
-
-// Whether the board has no words, or begins with a closing word.
-fn is_empty(board: &[u32]) -> bool
-    ensures { λ r. ⌜ r ≡ isEmpty (now (board .entry)) ⌝ }
-{
-    if board.len() == 0 {
-        return true;
-    }
-    Head::of(board[0]).kind == Head::CLOSING
-}
 
 // Reads the items, and writes the rows of those that pass into the tables, which are zero, as are the chain tables. A refusal leaves the
 // rows of the items before it.
@@ -88,7 +78,7 @@ pub fn read(
         return Report::refused(Refusal::BadRoll, 0);
     }
     // 3 blank
-    if is_empty(board) {
+    if board::is_empty(board) {
         return Report::refused(Refusal::EmptyBoard, 0);
     }
     // The chain tables, without an item.

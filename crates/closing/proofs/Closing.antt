@@ -1,19 +1,19 @@
 -- The closing word: what the code tests is what the model asks, and the report of an accepted board is the model's. Assumes nothing.
-use Prim.Native.Nat.{ℕ, _+_, _-_, _*_, _%_, _^_, _≤_}
+use Prim.Native.Nat.{ℕ, _+_, _-_, _*_, _≤_}
 use native.Mathlib.Omega.{arith}
 use mathlib.Core.Path.{_≡_, sym, ap, _∙_}
-use mathlib.Core.Bool.{Bool, true, false}
+use mathlib.Core.Bool.{Bool, true, false, not}
 use mathlib.Core.List.{List}
-use lib.ListN.{length, getD, take, drop, replicate, length-take, length-drop, length-replicate, replicate-append-replicate}
+use lib.ListN.{length, take, drop, replicate, length-take, length-drop, length-replicate, replicate-append-replicate}
 use lib.Seq.{sets}
 use lib.Dec.{eqb}
-use borrow.Author.Tests.{eq-eqb, ne-eqb}
+use borrow.Author.Tests.{not-true, not-false}
 use Rattle.model.specs.Lists.{if_then_else_, part}
 use Rattle.model.specs.Refusal.{badClosing}
 use Rattle.model.specs.Item.{itemLength}
 use Rattle.model.specs.History.{History, Entry, endAddress}
 use Rattle.model.specs.Counted.{counted, totalWeight}
-use Rattle.model.specs.Audit.{refused, accepted, closing, closingOk}
+use Rattle.model.specs.Audit.{refused, accepted, closing, isClosed, closingOk}
 use Rattle.model.specs.Format.{longestAddress}
 use Rattle.model.specs.Report.{filled, reportOf}
 use Rattle.model.proofs.Unchecked.{length-history}
@@ -32,24 +32,15 @@ use Rattle.state.specs.declared.State.{State}
 -- ---- 18
 
 module _ (board verdicts : List ℕ) (s : State) where
-  abbrev word : ℕ
-  word = getD board (s .place) 0
-
   abbrev Closed : Bool
   Closed = closingOk board verdicts (before board (s .items)) (s .place)
 
-  number : {w : ℕ} → w ≡ word % 268435456 → eqb (word % 2 ^ 28) (length (before board (s .items))) ≡ eqb w (s .items)
-  number e = rw (length-history (formatOf board) board (s .items), e)
+  module _ {b : Bool} (e : b ≡ isClosed board (s .items) (s .place)) where
+    pub closed-word : not b ≡ true → false ≡ Closed
+    closed-word q = rw (length-history (formatOf board) board (s .items), ← e, not-true b q)
 
-  pub closed-number : {w : ℕ} → w ≡ word % 268435456 → (w ≡ s .items → ⊥) → false ≡ Closed
-  closed-number e n = rw (number e, ne-eqb _ _ n)
-
-  module _ {w : ℕ} (e : w ≡ word % 268435456) (same : w ≡ s .items) where
-    pub closed-more : (s .place + 1 ≡ length board → ⊥) → false ≡ Closed
-    closed-more n = rw (number e, eq-eqb _ _ same, ne-eqb _ _ n)
-
-    pub closed-verdicts : s .place + 1 ≡ length board → eqb (9 * s .items) (length verdicts) ≡ Closed
-    closed-verdicts l = rw (number e, eq-eqb _ _ same, eq-eqb _ _ l, length-history (formatOf board) board (s .items))
+    pub closed-verdicts : not b ≡ false → eqb (9 * s .items) (length verdicts) ≡ Closed
+    closed-verdicts q = rw (length-history (formatOf board) board (s .items), ← e, not-false b q)
 
 -- ---- the end address
 
@@ -98,11 +89,11 @@ module _ (board verdicts : List ℕ) (s : State) where
   abbrev h : History
   h = before board (s .items)
 
-  pub close-bad : closingOk board verdicts h (s .place) ≡ false → closing (formatOf board) board verdicts h (s .place) ≡ refused badClosing (s .items)
+  pub close-bad : closingOk board verdicts h (s .place) ≡ false → closing (closingOk board verdicts h (s .place)) h ≡ refused badClosing (s .items)
   unfolding closing if_then_else_
   close-bad q = rw (q, length-history (formatOf board) board (s .items))
 
-  pub close-good : closingOk board verdicts h (s .place) ≡ true → closing (formatOf board) board verdicts h (s .place) ≡ accepted h
+  pub close-good : closingOk board verdicts h (s .place) ≡ true → closing (closingOk board verdicts h (s .place)) h ≡ accepted h
   unfolding closing if_then_else_
   close-good q = rw q
 

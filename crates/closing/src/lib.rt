@@ -12,25 +12,19 @@ ghost use Rattle.state.specs.Stands.{Stands};
 ghost use Rattle.tally.specs.Tallied.{Tallied};
 ghost use Rattle.report.specs.Reported.{reported};
 ghost use Rattle.closing.specs.Outcome.{closingOutcome};
+use format::board;
 use keys::Verdict;
 use refusal::Refusal;
 use report::Answer;
 use report::Report;
 use state::State;
 
-// Numbers of items that a closing word can hold: bits 27..0.
-const NUMBERS: u32 = 0x1000_0000;
-
 // Whether the closing word has the number of items, nothing follows it, and no verdict words are left over.
 fn is_closed(board: &[u32], verdicts: &[u32], index: &[u32], s: State) -> bool
     requires { ⌜ (Kept (now board) (now index) (s .items)) × (Stands (now board) s) × (s .place < length (now board)) ⌝ }
     ensures { λ r. ⌜ r ≡ closingOk (now (board .entry)) (now (verdicts .entry)) (before (now (board .entry)) (s .items)) (s .place) ⌝ }
 {
-    let at = s.place;
-    if words::wide(board[at] % NUMBERS) != s.items {
-        return false;
-    }
-    if at + 1 != board.len() {
+    if !board::is_closed(board, s.items, s.place) {
         return false;
     }
     Verdict::SIZE * s.items == verdicts.len()

@@ -1,4 +1,6 @@
-// The format of a board: its widths, head words, where an item's parts stand, limits, phases, sizes of contents, the table of item types.
+// The format of a board: its widths, its beginning and its end, head words, where an item's parts stand, limits, phases, sizes of contents,
+// the table of item types.
+pub mod board;
 pub mod format;
 pub mod head;
 pub mod item;

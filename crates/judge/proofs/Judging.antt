@@ -13,7 +13,7 @@ use Rattle.model.specs.Item.{behind}
 use Rattle.model.specs.Types as types
 use Rattle.model.specs.History.{placeOf, entryOf}
 use Rattle.model.specs.Roll.{onRoll}
-use Rattle.model.specs.Audit.{firstUnmet, faultIn, itemLimit}
+use Rattle.model.specs.Audit.{firstUnmet, faultIn, headFault, itemLimit}
 use Rattle.model.proofs.Tests.{passes}
 use Rattle.model.proofs.Unchecked.{length-history}
 use Rattle.model.proofs.FirstItems.{fault-meets}
@@ -50,7 +50,7 @@ module _ (board verdicts roll : List ℕ) (s : State) where
   word = getD board (s .place) 0
 
   pub fault-unlisted : types.rowOf (formatOf board) word ≡ none → faultAfter board verdicts roll s ≡ unknownType
-  unfolding faultIn
+  unfolding faultIn headFault
   fault-unlisted q = rw q
 
   -- the count that the code tested is that of the head
@@ -64,18 +64,18 @@ module _ (board verdicts roll : List ℕ) (s : State) where
 
   module _ (row : Row) (is : IsRow board s row) where
     pub fault-count : types.fits (countsOf (row .counts)) (countOf word) ≡ false → faultAfter board verdicts roll s ≡ wrongCount
-    unfolding faultIn if_then_else_
+    unfolding faultIn headFault if_then_else_
     fault-count q = rw (is, q)
 
     module _ (counted : types.fits (countsOf (row .counts)) (countOf word) ≡ true) where
       pub fault-past : {item : Item} → item ≡ itemOf board (s .place) → length board < item .end → faultAfter board verdicts roll s ≡ truncated
-      unfolding faultIn if_then_else_
+      unfolding faultIn headFault if_then_else_
       fault-past at-place l = rw (is, counted, lt-ltb _ _ (rw (item-end board (s .place) at-place) at l))
 
       -- 7 to 16 and 21
       pub fault-checks : Stands board s → behind (formatOf board) board (s .place) ≤ length board
           → faultAfter board verdicts roll s ≡ firstUnmet (checksOf board (onRoll roll) (verdictAt verdicts (s .items)) s row)
-      unfolding faultIn if_then_else_
+      unfolding faultIn headFault if_then_else_
       fault-checks stands l = rw (is, counted, le-ltb _ _ l, length-history (formatOf board) board (s .items), stands .place)
 
 -- ---- the item at hand

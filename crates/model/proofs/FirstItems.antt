@@ -20,7 +20,7 @@ use Rattle.model.specs.Item.{Item, itemAt, itemLength, behind, wordsOf}
 use Rattle.model.specs.Types.{Row, rowOf, fits}
 use Rattle.model.specs.History.{History, entryOf, placeOf, history}
 use Rattle.model.specs.Roll.{Eligibility}
-use Rattle.model.specs.Audit.{Check, checks, faultIn, fault, itemLimit, verdictOf}
+use Rattle.model.specs.Audit.{Check, checks, headFault, faultIn, fault, itemLimit, verdictOf}
 use Rattle.model.specs.Sound.{Meets, Passed, next, Beginning}
 use Rattle.model.specs.Reasons.{NoneOf, HeadAt, itemReasons, PassedFirst}
 use Rattle.model.proofs.Tests.{tests, ne→neqb, not-not, by-if}
@@ -41,16 +41,16 @@ module _ (f : Format) (on : Eligibility) (ws vs : List ℕ) (k : ℕ) where
 
   -- item k + 1 is whole, and meets the rules after the first k
   abbrev Meeting : Type 0
-  Meeting = (behind f ws here ≤ length ws) × Meets f on (history f ws k) (verdictOf f ws vs (history f ws k)) (itemAt f ws here)
+  Meeting = (behind f ws here ≤ length ws) × Meets f on (history f ws k) (verdictOf vs (history f ws k)) (itemAt f ws here)
 
   -- it does where it has no fault
   pub fault-meets : (row : Option Row) → rowOf f (getD ws here 0) ≡ row → faultIn f on ws vs row (history f ws k) here ≡ noFault → Meeting
-  unfolding faultIn itemAt checks
+  unfolding faultIn headFault itemAt checks
   fault-meets none q e = absurd (omega arith)
   fault-meets (some r) q e =
       let Goal : ℕ → Type 0 = λ n. n ≡ noFault → Meeting in
       let fitting = fits (r .counts) (countOf (getD ws here 0)) in
-      let rules : List Check = checks f on (history f ws k) (verdictOf f ws vs (history f ws k)) r (itemAt f ws here) in
+      let rules : List Check = checks f on (history f ws k) (verdictOf vs (history f ws k)) r (itemAt f ws here) in
       by-if Goal (not fitting) _ _ (λ t d. absurd (omega arith))
       (λ t. by-if Goal (ltb (length ws) (behind f ws here)) _ _ (λ u d. absurd (omega arith))
       λ u.
@@ -65,7 +65,7 @@ module _ (f : Format) (on : Eligibility) (ws vs : List ℕ) (k : ℕ) where
   none-meets : NoneOf (itemReasons f on ws vs k) → Meeting
   none-meets u = fault-meets (rowOf f (getD ws here 0)) refl (fault-number f on ws vs k (few f on ws vs k u) ∙ none-number _ u)
 
-  meets-none : k < itemLimit → length (verdictOf f ws vs (history f ws k)) ≡ verdictSize → Meeting → NoneOf (itemReasons f on ws vs k)
+  meets-none : k < itemLimit → length (verdictOf vs (history f ws k)) ≡ verdictSize → Meeting → NoneOf (itemReasons f on ws vs k)
   unfolding itemAt
   meets-none small long (fit, m) =
       let passes : fault f on ws vs (history f ws k) here ≡ noFault = rw (m .listed .found) (item-step f on ws vs (history f ws k) here m fit long) in

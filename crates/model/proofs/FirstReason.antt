@@ -1,14 +1,14 @@
 -- The first reason that applies: there is one or none applies, and it has one number. Paper: "The first that applies is the answer."
 -- Assumes nothing.
 use Prim.Native.Nat.{ℕ}
-use mathlib.Core.Path.{_≡_, refl, ap, _∙_}
-use mathlib.Core.List.{List, [], _∷_, _++_}
+use mathlib.Core.Path.{_≡_, refl, ap, subst, _∙_}
+use mathlib.Core.List.{List, [], _∷_, _++_, append-assoc}
 use lib.Dec.{T}
 use Rattle.model.specs.Lists.{if_then_else_, any}
 use Rattle.model.specs.Refusal.{noFault}
 use Rattle.model.specs.Reasons.{Reason, NoneOf, FirstOf}
-use Rattle.model.proofs.Tests.{by-test, if-yes}
-use Rattle.model.proofs.Lists.{Every}
+use Rattle.model.proofs.Tests.{by-test, neither, if-yes}
+use Rattle.model.proofs.Lists.{Every, any-append}
 
 -- its number, 0 where none applies
 unfoldable pub firstNumber : List Reason → ℕ
@@ -54,3 +54,27 @@ every-middle P (x ∷ xs) y ys all = every-middle P xs y ys (all .1)
 pub every-first : (P : ℕ → Type 0) {rs : List Reason} {n : ℕ} → Every (λ r. P (r .number)) rs → FirstOf rs n → P n
 every-first P all s =
     rw (s .number) at (every-middle (λ r. P (r .number)) (s .earlier) (s .reason) (s .later) (rw (s .listed) at all))
+
+-- ---- more reasons behind
+
+-- the first stays the first
+pub first-before : {rs : List Reason} {n : ℕ} (more : List Reason) → FirstOf rs n → FirstOf (rs ++ more) n
+first-before more s = record {
+  earlier = s .earlier;
+  reason = s .reason;
+  later = s .later ++ more;
+  listed = ap (_++ more) (s .listed) ∙ append-assoc (s .earlier) (s .reason ∷ s .later) more;
+  noEarlier = s .noEarlier;
+  applies = s .applies;
+  number = s .number;
+}
+
+-- where none applies, the first is one of those behind
+pub number-behind : (rs more : List Reason) → NoneOf rs → firstNumber (rs ++ more) ≡ firstNumber more
+unfolding any firstNumber
+number-behind [] more u = refl
+number-behind (r ∷ rs) more u = by-test (r .applies) (λ q. absurd (rw q at u)) (λ q. rw q (number-behind rs more (rw q at u)))
+
+pub none-before : (all rs more : List Reason) → all ≡ rs ++ more → NoneOf all → NoneOf rs
+none-before all rs more e u =
+    neither (any (λ r. r .applies) rs) (any (λ r. r .applies) more) .0 (rw (any-append (λ r. r .applies) rs more) at (subst NoneOf e u)) .0

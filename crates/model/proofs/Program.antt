@@ -21,7 +21,7 @@ use Rattle.model.specs.Types.{Row, rowOf, fits, table}
 use Rattle.model.specs.History.{History, Entry, main, entryOf}
 use Rattle.model.specs.Counted.{counted, totalWeight}
 use Rattle.model.specs.Roll.{Eligibility, electors, rising, isBadRoll, onRoll}
-use Rattle.model.specs.Audit.{Outcome, accepted, faultIn, fault, closing, judged, wordAt, items, audit, itemLimit, indexNeed, ballotNeed, isTooLarge}
+use Rattle.model.specs.Audit.{Outcome, accepted, headFault, faultIn, fault, closing, judged, wordAt, reading, items, audit, itemLimit, indexNeed, ballotNeed, isTooLarge, closingOk}
 use Rattle.model.specs.Report.{reportOf, ballotRows}
 use Rattle.model.specs.Sound.{Meets, Passed, next, Sound}
 use Rattle.model.specs.Program.{fromBytes, bytesPerWord, programLimit, leastItem, programItems, verdictLimit, rollKept, areWhole, sizeFault, sized, programOutcome, filesOutcome, digits, spaced, refusedLine, acceptedLine, rowLines, textOf, printed}
@@ -46,7 +46,7 @@ module _ (f : Format) (on : Eligibility) (ws vs : List ℕ) (least : leastItem �
   Behind h p = leastItem * length h ≤ p
 
   fault-cut : (r : Option Row) (h : History) (p : ℕ) → Behind h p → faultIn f on ws front r h p ≡ faultIn f on ws vs r h p
-  unfolding faultIn itemLength
+  unfolding faultIn headFault itemLength
   fault-cut none h p b = refl
   fault-cut (some r) h p b =
       by-test (ltb (length ws) (behind f ws p))
@@ -55,7 +55,7 @@ module _ (f : Format) (on : Eligibility) (ws vs : List ℕ) (least : leastItem �
 
   -- an item without a fault is whole
   fault-whole : (r : Option Row) (h : History) (p : ℕ) → faultIn f on ws vs r h p ≡ 0 → behind f ws p ≤ length ws
-  unfolding faultIn
+  unfolding faultIn headFault
   fault-whole none h p e = absurd (omega arith)
   fault-whole (some r) h p e =
       by-if (λ n. n ≡ 0 → behind f ws p ≤ length ws) (not (fits (r .counts) (countOf (getD ws p 0)))) _ _ (λ t q. absurd (omega arith))
@@ -69,16 +69,16 @@ module _ (f : Format) (on : Eligibility) (ws vs : List ℕ) (least : leastItem �
       (λ q. let e = eqb-true n (length vs) q in eq-eqb n (length front) (rw length-take (omega arith)) ∙ sym q)
       (λ q. let e = eqb-false n (length vs) q in ne-eqb n (length front) (rw length-take (λ d. e (omega arith))) ∙ sym q)
 
-  closing-cut : (h : History) (p : ℕ) → Behind h p → p < length ws → closing f ws front h p ≡ closing f ws vs h p
+  closing-cut : (h : History) (p : ℕ) → Behind h p → p < length ws → closing (closingOk ws front h p) h ≡ closing (closingOk ws vs h p) h
   unfolding closing
   closing-cut h p b l = rw (left-cut (verdictSize * length h) (omega arith))
 
-  judged-cut : (n : ℕ) (h : History) (o o′ : Outcome) → (n ≡ 0 → o ≡ o′) → judged f ws front n h o ≡ judged f ws vs n h o′
+  judged-cut : (n : ℕ) (h : History) (o o′ : Outcome) → (n ≡ 0 → o ≡ o′) → judged n h o ≡ judged n h o′
   unfolding judged
   judged-cut zero h o o′ e = e refl
   judged-cut (suc n) h o o′ e = refl
 
-  word-cut : (h : History) (p : ℕ) (o o′ : Outcome) → Behind h p → o ≡ o′ → wordAt f ws front h p o ≡ wordAt f ws vs h p o′
+  word-cut : (h : History) (p : ℕ) (o o′ : Outcome) → Behind h p → o ≡ o′ → wordAt ws (closingOk ws front) h p o ≡ wordAt ws (closingOk ws vs) h p o′
   unfolding wordAt
   word-cut h p o o′ b e =
       by-test (leb (length ws) p)
@@ -86,7 +86,7 @@ module _ (f : Format) (on : Eligibility) (ws vs : List ℕ) (least : leastItem �
       (λ q. rw (q, closing-cut h p b (leb-false (length ws) p q), e))
 
   items-cut : (k : ℕ) (h : History) (p : ℕ) → Behind h p → items f on ws front k h p ≡ items f on ws vs k h p
-  unfolding items itemLength
+  unfolding reading itemLength
   items-cut zero h p b = word-cut h p _ _ b refl
   items-cut (suc k) h p b =
       word-cut h p _ _ b

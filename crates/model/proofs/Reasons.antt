@@ -19,12 +19,12 @@ use Rattle.model.specs.Format.{Format}
 use Rattle.model.specs.Types.{Row, rowOf}
 use Rattle.model.specs.History.{placeOf, history}
 use Rattle.model.specs.Roll.{Eligibility, isBadRoll, onRoll}
-use Rattle.model.specs.Audit.{Outcome, unread, refused, accepted, Check, firstUnmet, checks, faultIn, fault, closing, judged, items, audit, itemLimit, isTooLarge, isShort, isEmpty, closingOk}
+use Rattle.model.specs.Audit.{Outcome, unread, refused, accepted, Check, firstUnmet, checks, headFault, faultIn, fault, closing, judged, items, audit, itemLimit, isTooLarge, isShort, isEmpty, closingOk}
 use Rattle.model.specs.Reasons.{Reason, NoneOf, FirstOf, startReasons, listedWith, ClosesAt, HeadAt, itemReasons, closingReasons, Reached, Answers, atStart, atRoll, atEmpty, atEnd, atItem, atClosing, acceptance}
 use Rattle.model.proofs.Tests.{tests, by-test, passes, neither, ne→neqb, if-yes, if-no, if-both}
 use Rattle.model.proofs.FirstReason.{firstNumber, by-first, none-number, first-number, every-first}
 use Rattle.model.proofs.Unchecked.{length-history}
-use Rattle.model.proofs.Steps.{itemsFrom, judged-refused, items-start, items-ended, items-closing, items-full, items-refused, items-passed}
+use Rattle.model.proofs.Steps.{itemsFrom, judged-refused, from-start, from-ended, from-closing, from-full, from-refused, from-passed}
 
 -- ---- an item's fault is its first reason's number
 
@@ -43,7 +43,7 @@ not-first rs r rest e u = neither (r .applies) (any (λ s. s .applies) rest) .0 
 module _ (f : Format) (on : Eligibility) (ws vs : List ℕ) (k : ℕ) where
   by-row : (row : Option Row) → rowOf f (getD ws (placeOf f ws k) 0) ≡ row
       → firstNumber (itemReasons f on ws vs k) ≡ (if leb itemLimit k then tooLarge else faultIn f on ws vs row (history f ws k) (placeOf f ws k))
-  unfolding itemReasons listedWith firstNumber faultIn checks unmet
+  unfolding itemReasons listedWith firstNumber faultIn headFault checks unmet
   by-row none q = rw q
   by-row (some r) q = rw (q, unmet-number)
 
@@ -72,35 +72,35 @@ module _ (f : Format) (on : Eligibility) (ws vs : List ℕ) (k : ℕ) where
   item-passed : HeadAt f ws k → NoneOf (itemReasons f on ws vs k) → after k ≡ after (suc k)
   item-passed (there, head) u =
       let small = few f on ws vs k u in
-      items-passed f on ws vs k there head small (fault-number f on ws vs k small ∙ none-number _ u)
+      from-passed f ws (closingOk ws vs) (fault f on ws vs) k there head small (fault-number f on ws vs k small ∙ none-number _ u)
 
   -- a reason is the first to apply to it
   item-refused : (n : ℕ) → HeadAt f ws k → FirstOf (itemReasons f on ws vs k) n → after k ≡ refused n k
   item-refused n (there, head) s =
       by-cases (decLe itemLimit k)
-      (λ l. rw (sym (first-number s) ∙ full-number f on ws vs k l) (items-full f on ws vs k there head l))
-      (λ l. items-refused f on ws vs k there head (omega arith) n (fault-number f on ws vs k (omega arith) ∙ first-number s) (some-number f on ws vs k s))
+      (λ l. rw (sym (first-number s) ∙ full-number f on ws vs k l) (from-full f ws (closingOk ws vs) (fault f on ws vs) k there head l))
+      (λ l. from-refused f ws (closingOk ws vs) (fault f on ws vs) k there head (omega arith) n (fault-number f on ws vs k (omega arith) ∙ first-number s) (some-number f on ws vs k s))
 
   -- at the closing word
-  closing-number : closing f ws vs (history f ws k) (placeOf f ws k)
-      ≡ judged f ws vs (firstNumber (closingReasons f ws vs k)) (history f ws k) (accepted (history f ws k))
+  closing-number : closing (closingOk ws vs (history f ws k) (placeOf f ws k)) (history f ws k)
+      ≡ judged (firstNumber (closingReasons f ws vs k)) (history f ws k) (accepted (history f ws k))
   unfolding closing judged closingReasons firstNumber
   closing-number =
       let h = history f ws k in
-      sym (if-both (λ (n : ℕ). judged f ws vs n h (accepted h)) (not (closingOk ws vs h (placeOf f ws k))) refl refl)
+      sym (if-both (λ (n : ℕ). judged n h (accepted h)) (not (closingOk ws vs h (placeOf f ws k))) refl refl)
 
   closing-refused : (n : ℕ) → ClosesAt f ws k → FirstOf (closingReasons f ws vs k) n → after k ≡ refused n k
   unfolding closingReasons
   closing-refused n (there, last) s =
       let some = every-first (λ m. m ≢ noFault) (omega arith) s in
-      items-closing f on ws vs k there last ∙ closing-number
-      ∙ ap (λ (m : ℕ). judged f ws vs m (history f ws k) (accepted (history f ws k))) (first-number s)
-      ∙ judged-refused f ws vs n (history f ws k) _ some ∙ ap (refused n) (length-history f ws k)
+      from-closing f ws (closingOk ws vs) (fault f on ws vs) k there last ∙ closing-number
+      ∙ ap (λ (m : ℕ). judged m (history f ws k) (accepted (history f ws k))) (first-number s)
+      ∙ judged-refused n (history f ws k) _ some ∙ ap (refused n) (length-history f ws k)
 
   closing-accepted : ClosesAt f ws k → NoneOf (closingReasons f ws vs k) → after k ≡ accepted (history f ws k)
   unfolding judged
-  closing-accepted (there, last) u = items-closing f on ws vs k there last ∙ closing-number
-      ∙ ap (λ (m : ℕ). judged f ws vs m (history f ws k) (accepted (history f ws k))) (none-number _ u)
+  closing-accepted (there, last) u = from-closing f ws (closingOk ws vs) (fault f on ws vs) k there last ∙ closing-number
+      ∙ ap (λ (m : ℕ). judged m (history f ws k) (accepted (history f ws k))) (none-number _ u)
 
 -- before the items
 startAnswer : ℕ → Outcome → Outcome
@@ -132,7 +132,7 @@ module _ (f : Format) (ws vs roll : List ℕ) (index ballots : ℕ) where
   -- the first k items pass
   reached : (k : ℕ) → Reached f ws vs roll index ballots k → audit f ws vs roll index ballots ≡ itemsFrom f (onRoll roll) ws vs k
   unfolding startAnswer
-  reached zero r = start-number ∙ ap (λ (m : ℕ). startAnswer m itemsAnswer) (none-number _ (r .started)) ∙ items-start f (onRoll roll) ws vs
+  reached zero r = start-number ∙ ap (λ (m : ℕ). startAnswer m itemsAnswer) (none-number _ (r .started)) ∙ from-start f ws (closingOk ws vs) (fault f (onRoll roll) ws vs)
   reached (suc k) r =
       let last = r .passed k (omega arith) in
       let before : Reached f ws vs roll index ballots k = record { started = r .started; passed = λ j l. r .passed j (omega arith) } in
@@ -144,7 +144,7 @@ module _ (f : Format) (ws vs roll : List ℕ) (index ballots : ℕ) where
       start-first n s ∙ start-unread n itemsAnswer (every-first (λ m. m ≢ noFault) (omega arith) s) bad other
   answered (atRoll s) = start-first badRoll s
   answered (atEmpty s) = start-first emptyBoard s
-  answered (atEnd k r end) = reached k r ∙ items-ended f (onRoll roll) ws vs k end
+  answered (atEnd k r end) = reached k r ∙ from-ended f ws (closingOk ws vs) (fault f (onRoll roll) ws vs) k end
   answered (atItem n k r head s) = reached k r ∙ item-refused f (onRoll roll) ws vs k n head s
   answered (atClosing n k r last s) = reached k r ∙ closing-refused f (onRoll roll) ws vs k n last s
   answered (acceptance k r last u) = reached k r ∙ closing-accepted f (onRoll roll) ws vs k last u

@@ -78,21 +78,30 @@ module _ (f : Format) (ws : List ℕ) (k : ℕ) where
   abbrev pub HeadAt : Type 0
   HeadAt = (placeOf f ws k < length ws) × T (not (isClosing (getD ws (placeOf f ws k) 0)))
 
--- "item by item: the item limit, 5, 6, 4, then 7 to 16 in order", 21 "right after 13", of the item there. Each condition stands
--- alone: what it asks of an item that is not listed or not whole does not matter, since 5 or 4 comes first.
-unfoldable pub itemReasons : Format → Eligibility → (board verdicts : List ℕ) → ℕ → List Reason
-itemReasons f eligible ws vs k =
+-- "item by item: the item limit, 5, 6, 4", of the head there. Each condition stands alone: what it asks of an item that is not listed does not
+-- matter, since 5 comes first.
+abbrev pub headReasons : Format → List ℕ → ℕ → List Reason
+headReasons f ws k =
     let p = placeOf f ws k in
     let w = getD ws p 0 in
     let row = rowOf f w in
-    let h = history f ws k in
-    let i = itemAt f ws p in
-    let v = verdictOf f ws vs h in
     tooLarge when leb itemLimit k
     ∷ unknownType when not (listedWith (λ r. true) row)
     ∷ wrongCount when not (listedWith (λ r. fits (r .counts) (countOf w)) row)
     ∷ truncated when ltb (length ws) (behind f ws p)
-    ∷ wrongAddress when not (addressOk f i)
+    ∷ []
+
+-- those of the head, "then 7 to 16 in order", 21 "right after 13". What these say of an item that is not listed or not whole does not matter, since
+-- 5 or 4 comes first.
+unfoldable pub itemReasons : Format → Eligibility → (board verdicts : List ℕ) → ℕ → List Reason
+itemReasons f eligible ws vs k =
+    let p = placeOf f ws k in
+    let row = rowOf f (getD ws p 0) in
+    let h = history f ws k in
+    let i = itemAt f ws p in
+    let v = verdictOf vs h in
+    headReasons f ws k ++ (
+    wrongAddress when not (addressOk f i)
     ∷ wrongPrevious when not (previousOk f h i)
     ∷ wrongParent when not (listedWith (λ r. parentOk f h (r .parent) i) row)
     ∷ earlierTime when not (timeOk h i)
@@ -103,7 +112,7 @@ itemReasons f eligible ws vs k =
     ∷ noVerdict when not (verdictOk v)
     ∷ wrongKey when not (listedWith (λ r. keyOk v (keyOf h (r .writer) i)) row)
     ∷ badSignature when not (signatureOk v)
-    ∷ []
+    ∷ [])
 
 -- "At the closing word: 18, then 17"; request (viii) removed 17
 unfoldable pub closingReasons : Format → (board verdicts : List ℕ) → ℕ → List Reason

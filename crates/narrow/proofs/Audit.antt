@@ -23,8 +23,8 @@ use Rattle.model.specs.Phase.{phaseOk}
 use Rattle.model.specs.Only.{onlyOk}
 use Rattle.model.specs.Content.{genesisOk, contentOk}
 use Rattle.model.specs.Roll.{Eligibility, isBadRoll, onRoll}
-use Rattle.model.specs.Audit.{Outcome, refused, accepted, firstUnmet, checks, faultIn, fault, judged, wordAt, items, audit}
-use Rattle.model.specs.Audit.{itemLimit, isTooLarge, isShort, isEmpty}
+use Rattle.model.specs.Audit.{Outcome, refused, accepted, firstUnmet, checks, headFault, faultIn, fault, judged, wordAt, reading, items, audit, closingOk}
+use Rattle.model.specs.Audit.{itemLimit, isTooLarge, isShort, isEmpty, closingOk}
 use Rattle.model.specs.Sound.{Shaped, Passed}
 use Rattle.model.proofs.Tests.{facts, by-test, passes, by-if}
 use Rattle.model.proofs.Parsing.{shaped-at}
@@ -105,7 +105,7 @@ module _ (s : Hashes) where
       same-fault : (r : Before.Row) (c : Counts) → rowOf f w ≡ some (with-counts r c) → fits c (countOf w) ≡ Before.fits (r .counts) (countOf w)
           → (Shaped f i → T (fits c (countOf w)) → genesisOk i ≡ true)
           → faultIn f on ws vs (some (with-counts r c)) h p ≡ Before.faultIn f on ws vs (some r) h p
-      unfolding faultIn Before.faultIn checks Before.checks if_then_else_ itemAt
+      unfolding faultIn headFault Before.faultIn checks Before.checks if_then_else_ itemAt
       same-fault r c listed same old =
           by-test (fits c (countOf w))
           (λ q. rw (← same, q)
@@ -121,7 +121,7 @@ module _ (s : Hashes) where
       -- another item than a genesis
       other-fault : (r : Option Before.Row) → rowOf f w ≡ option-now r → isGenesis w ≡ false
           → faultIn f on ws vs (option-now r) h p ≡ Before.faultIn f on ws vs r h p
-      unfolding faultIn Before.faultIn itemAt
+      unfolding faultIn headFault Before.faultIn itemAt
       other-fault none e q = refl
       other-fault (some r) e q =
           let l : Listed f w = record { row = row-now r; found = e } in
@@ -145,7 +145,7 @@ module _ (s : Hashes) where
 
       -- and behind another item it is now refused by a check up to 12
       later-fault : 1 ≤ length h → codeOf w ≡ 1 → countOf w ≡ 18 → UpToSecond (faultIn f on ws vs (some firstNow) h p)
-      unfolding faultIn fits checks firstUnmet any itemAt
+      unfolding faultIn headFault fits checks firstUnmet any itemAt
       later-fault one c e =
           by-if UpToSecond (not (fits (from_to_ 17 18) (countOf w))) _ _ (λ t. absurd (rw e at t))
           λ t. by-if UpToSecond (ltb (length ws) (behind f ws p)) _ _ (λ t. tt)
@@ -162,12 +162,12 @@ module _ (s : Hashes) where
     Same is was = (is ≡ was) ⊎ LaterGenesis s ws was is
 
     -- the same fault is the same answer, or leads on
-    judged-same : (k : ℕ) (h : History) (is was : Outcome) → (k ≡ noFault → Same is was) → Same (judged f ws vs k h is) (judged f ws vs k h was)
+    judged-same : (k : ℕ) (h : History) (is was : Outcome) → (k ≡ noFault → Same is was) → Same (judged k h is) (judged k h was)
     unfolding judged
     judged-same zero h is was g = g refl
     judged-same (suc k) h is was g = inl refl
 
-    word-same : (h : History) (p : ℕ) (is was : Outcome) → Same is was → Same (wordAt f ws vs h p is) (wordAt f ws vs h p was)
+    word-same : (h : History) (p : ℕ) (is was : Outcome) → Same is was → Same (wordAt ws (closingOk ws vs) h p is) (wordAt ws (closingOk ws vs) h p was)
     unfolding wordAt if_then_else_
     word-same h p is was same =
         by-test (leb (length ws) p) (λ q. rw q (inl refl))
@@ -183,7 +183,7 @@ module _ (s : Hashes) where
       item-same : (n : ℕ) (is was : Outcome) → At f on (history f ws n) (placeOf f ws n)
           → (At f on (history f ws (suc n)) (placeOf f ws (suc n)) → Same is was)
           → let h = history f ws n in let p = placeOf f ws n in
-          Same (judged f ws vs (fault f on ws vs h p) h is) (judged f ws vs (Before.fault f on ws vs h p) h was)
+          Same (judged (fault f on ws vs h p) h is) (judged (Before.fault f on ws vs h p) h was)
       unfolding history placeOf
       item-same n is was a rest =
           let h = history f ws n in
@@ -202,9 +202,9 @@ module _ (s : Hashes) where
             passed = n;
             later = later;
             head = head;
-            before = judged-refused f ws vs _ h was (λ e. absurd (omega (arith, was-fault h p a count))) ∙ rw (was-fault h p a count, size);
+            before = judged-refused _ h was (λ e. absurd (omega (arith, was-fault h p a count))) ∙ rw (was-fault h p a count, size);
             number = faultIn f on ws vs (some firstNow) h p;
-            now = judged-refused f ws vs _ h is (some-number _ number) ∙ rw size;
+            now = judged-refused _ h is (some-number _ number) ∙ rw size;
             number-is = number;
           }))
           (λ t. rw (← first-fault h p a q (eqb-false (countOf w) 18 t))
@@ -215,7 +215,7 @@ module _ (s : Hashes) where
       items-same : (k n : ℕ) → At f on (history f ws n) (placeOf f ws n)
           → let h = history f ws n in let p = placeOf f ws n in
           Same (items f on ws vs k h p) (Before.items f on ws vs k h p)
-      unfolding items Before.items history placeOf
+      unfolding reading Before.items history placeOf
       items-same zero n a = word-same (history f ws n) _ (refused tooLarge (length (history f ws n))) _ (inl refl)
       items-same (suc k) n a = word-same (history f ws n) _ _ _ (item-same n _ _ a (λ b. items-same k (suc n) b))
 

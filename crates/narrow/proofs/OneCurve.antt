@@ -24,8 +24,8 @@ use Rattle.model.specs.History.{History, placeOf, history}
 use Rattle.model.specs.Only.{onlyOk}
 use Rattle.model.specs.Content.{genesisTraits, genesisOk, contentOk}
 use Rattle.model.specs.Roll.{Eligibility, isBadRoll, onRoll}
-use Rattle.model.specs.Audit.{Outcome, accepted, firstUnmet, checks, verdictOf, faultIn, fault, judged, wordAt, items, audit}
-use Rattle.model.specs.Audit.{itemLimit, isTooLarge, isShort, isEmpty}
+use Rattle.model.specs.Audit.{Outcome, accepted, firstUnmet, checks, verdictOf, headFault, faultIn, fault, judged, wordAt, reading, items, audit, closingOk}
+use Rattle.model.specs.Audit.{itemLimit, isTooLarge, isShort, isEmpty, closingOk}
 use Rattle.model.specs.Sound.{Passed}
 use Rattle.model.proofs.Tests.{facts, and-iff, by-test, passes, is-true, is-false, by-if}
 use Rattle.model.proofs.Checks.{by-checks}
@@ -127,7 +127,7 @@ module _ (f : Format) (on : Eligibility) (ws vs : List ℕ) where
     -- so it has the same fault
     fault-same : (r : Option Row) (n : ℕ) → let h = history f ws n in let p = placeOf f ws n in At f on h p → rowOf f (getD ws p 0) ≡ r
         → faultIn f on ws vs r h p ≡ Was.faultIn f on ws vs r h p
-    unfolding faultIn Was.faultIn checks Was.checks firstUnmet contentOk Was.contentOk if_then_else_
+    unfolding faultIn headFault Was.faultIn checks Was.checks firstUnmet contentOk Was.contentOk if_then_else_
     fault-same none n a e = refl
     fault-same (some r) n a e =
         let h = history f ws n in
@@ -138,22 +138,22 @@ module _ (f : Format) (on : Eligibility) (ws vs : List ℕ) where
         (λ t. rw t))
         (λ q. rw q)
 
-    judged-same : (k : ℕ) (h : History) {is was : Outcome} → (k ≡ noFault → is ≡ was) → judged f ws vs k h is ≡ judged f ws vs k h was
+    judged-same : (k : ℕ) (h : History) {is was : Outcome} → (k ≡ noFault → is ≡ was) → judged k h is ≡ judged k h was
     unfolding judged
     judged-same zero h same = same refl
     judged-same (suc k) h same = refl
 
     items-same : (k n : ℕ) → let h = history f ws n in let p = placeOf f ws n in At f on h p
         → items f on ws vs k h p ≡ Was.items f on ws vs k h p
-    unfolding items Was.items history placeOf
+    unfolding reading Was.items history placeOf
     items-same zero n a = refl
     items-same (suc k) n a =
         let h = history f ws n in
         let p = placeOf f ws n in
         let rest = Was.items f on ws vs k (history f ws (suc n)) (placeOf f ws (suc n)) in
-        ap (wordAt f ws vs h p)
+        ap (wordAt ws (closingOk ws vs) h p)
         (judged-same (fault f on ws vs h p) h (λ e. items-same k (suc n) (faultless f on ws vs _ h p a refl e))
-        ∙ ap (λ (m : ℕ). judged f ws vs m h rest) (fault-same _ n a refl))
+        ∙ ap (λ (m : ℕ). judged m h rest) (fault-same _ n a refl))
 
     all-same : items f on ws vs itemLimit [] 0 ≡ Was.items f on ws vs itemLimit [] 0
     unfolding history placeOf
@@ -192,7 +192,7 @@ module _ (f : Format) (on : Eligibility) (ws vs : List ℕ) (larger : LargerCurv
       let some : (n : ℕ) → Goal (suc n) = λ n e. absurd (omega arith) in
       by-if Goal (not (fits (r .counts) (countOf (getD ws 0 0)))) _ _ (λ t. some 5)
       λ t. by-if Goal (ltb (length ws) (behind f ws 0)) _ _ (λ u. some 3)
-      λ u. by-checks Goal (Was.checks f on [] (verdictOf f ws vs []) r (itemAt f ws 0))
+      λ u. by-checks Goal (Was.checks f on [] (verdictOf vs []) r (itemAt f ws 0))
       (λ met. absurd (unmet (met .1 .1 .1 .1 .1 .1 .0)))
       (some 6, (some 7, (some 8, (some 9, (some 10, (some 11, (some 12, (some 20, (some 13, (some 14, (some 15, tt)))))))))))
 
@@ -201,7 +201,7 @@ module _ (f : Format) (on : Eligibility) (ws vs : List ℕ) (larger : LargerCurv
   was-none k =
       by-if NonePassed (leb (length ws) 0) _ _ (λ t. (4, inr refl))
       λ t. by-if NonePassed (isClosing (getD ws 0 0)) _ _ (λ u. absurd (rw (larger .head) at u))
-      λ u. let fault = Was.fault f on ws vs [] 0 in (fault, inr (judged-refused f ws vs fault [] _ (was-refused _)))
+      λ u. let fault = Was.fault f on ws vs [] 0 in (fault, inr (judged-refused fault [] _ (was-refused _)))
 
 -- a board of a larger curve was refused before its first item passed
 pub larger-before : (f : Format) (ws vs roll : List ℕ) (index ballots : ℕ) → LargerCurve ws → NonePassed (Was.audit f ws vs roll index ballots)

@@ -19,7 +19,7 @@ use Rattle.model.specs.Types.{Row, rowOf, fits}
 use Rattle.model.specs.History.{History, typed, grown}
 use Rattle.model.specs.Only.{onBoardOk, onlyOk}
 use Rattle.model.specs.Roll.{Eligibility}
-use Rattle.model.specs.Audit.{checks, verdictOf, faultIn}
+use Rattle.model.specs.Audit.{checks, verdictOf, headFault, faultIn}
 use Rattle.model.specs.Sound.{Meets, Passed, next}
 use Rattle.model.proofs.Tests.{facts, tests, is-true, not-not, by-if}
 use Rattle.model.proofs.Rules.{only-rules}
@@ -49,14 +49,14 @@ pub record At (f : Format) (on : Eligibility) (h : History) (p : ℕ) : Type 0 w
 
 module _ (f : Format) (on : Eligibility) (ws vs : List ℕ) where
   -- an item that meets the rules leads to the place behind it
-  onward : (h : History) (p : ℕ) → At f on h p → behind f ws p ≤ length ws → Meets f on h (verdictOf f ws vs h) (itemAt f ws p)
+  onward : (h : History) (p : ℕ) → At f on h p → behind f ws p ≤ length ws → Meets f on h (verdictOf vs h) (itemAt f ws p)
       → At f on (grown f ws h p) (behind f ws p)
   unfolding itemAt
   onward h p a fit m =
       let i = itemAt f ws p in
       record {
         words = a .words ++ wordsOf i;
-        verdicts = a .verdicts ++ verdictOf f ws vs h;
+        verdicts = a .verdicts ++ verdictOf vs h;
         passed = rw (a .place) at (next (a .words) (a .verdicts) h _ i (a .passed) m);
         place = length-append (a .words) (wordsOf i) ∙ rw (a .place, length-words f i (shaped-at f ws p fit));
       }
@@ -64,14 +64,14 @@ module _ (f : Format) (on : Eligibility) (ws vs : List ℕ) where
   -- as does one without a fault
   pub faultless : (r : Option Row) (h : History) (p : ℕ) → At f on h p → rowOf f (getD ws p 0) ≡ r → faultIn f on ws vs r h p ≡ noFault
       → At f on (grown f ws h p) (behind f ws p)
-  unfolding faultIn itemAt checks
+  unfolding faultIn headFault itemAt checks
   faultless none h p a listed = λ e. absurd (omega arith)
   faultless (some r) h p a listed =
       let Goal : ℕ → Type 0 = λ n. n ≡ noFault → At f on (grown f ws h p) (behind f ws p) in
       let no : (n : ℕ) → Goal (suc n) = λ n e. absurd (omega arith) in
       let fitting = fits (r .counts) (countOf (getD ws p 0)) in
       let i = itemAt f ws p in
-      let v = verdictOf f ws vs h in
+      let v = verdictOf vs h in
       by-if Goal (not fitting) _ _ (λ t. no 5)
       λ t. by-if Goal (ltb (length ws) (behind f ws p)) _ _ (λ u. no 3)
       λ u.

@@ -26,7 +26,7 @@ use Rattle.model.specs.Only.{onlyOk}
 use Rattle.model.specs.Content.{defines, thresholdOk, authorizerOk, commitmentOk, fingerprintOk}
 use Rattle.model.specs.Roll.{Eligibility, isBadRoll, onRoll, onRollOk}
 use Rattle.model.specs.Keys.{keyOf, verdictOk, keyOk, signatureOk}
-use Rattle.model.specs.Audit.{Outcome, unread, refused, Check, firstUnmet, verdictOf, judged, wordAt, itemLimit, isTooLarge, isShort, isEmpty}
+use Rattle.model.specs.Audit.{Outcome, unread, refused, Check, firstUnmet, verdictOf, judged, wordAt, itemLimit, isTooLarge, isShort, isEmpty, closingOk}
 
 -- ---- sets: "bit j of the word stands for number j, and k is the number of ones in that word". `bit` was called member
 
@@ -220,7 +220,7 @@ module _ (f : Format) (eligible : Eligibility) (ws vs : List ℕ) where
   faultIn (some r) h p =
       if not (fits (r .counts) (countOf (getD ws p 0))) then wrongCount
       else if ltb (length ws) (behind f ws p) then truncated
-      else firstUnmet (checks f eligible h (verdictOf f ws vs h) r (itemAt f ws p))
+      else firstUnmet (checks f eligible h (verdictOf vs h) r (itemAt f ws p))
 
   abbrev pub fault : History → ℕ → ℕ
   fault h p = faultIn (rowOf f (getD ws p 0)) h p
@@ -228,8 +228,8 @@ module _ (f : Format) (eligible : Eligibility) (ws vs : List ℕ) where
   -- the words from place p on, after the history h, where so many more items are allowed
   unfoldable pub items : ℕ → History → ℕ → Outcome
   unfolding wordAt
-  items zero h p = wordAt f ws vs h p (refused tooLarge (length h))
-  items (suc k) h p = wordAt f ws vs h p (judged f ws vs (fault h p) h (items k (grown f ws h p) (behind f ws p)))
+  items zero h p = wordAt ws (closingOk ws vs) h p (refused tooLarge (length h))
+  items (suc k) h p = wordAt ws (closingOk ws vs) h p (judged (fault h p) h (items k (grown f ws h p) (behind f ws p)))
 
 -- "Word limit, 2 and 3 come first. Then, item by item"; 20 "comes right after 2". With the roll, and with so many words in the index table and
 -- in the ballot table

@@ -24,7 +24,7 @@ use Rattle.model.specs.Only.{onlyOk}
 use Rattle.model.specs.Content.{genesisTraits, contestOk, thresholdOk, authorizerOk, roundOk, sessionOk, commitmentOk, ballotOk, fingerprintOk, trusteesOk}
 use Rattle.model.specs.Roll.{Eligibility, isBadRoll, onRoll, onRollOk}
 use Rattle.model.specs.Keys.{keyOf, verdictOk, keyOk, signatureOk}
-use Rattle.model.specs.Audit.{Outcome, unread, refused, Check, firstUnmet, verdictOf, judged, wordAt, itemLimit, isTooLarge, isShort, isEmpty}
+use Rattle.model.specs.Audit.{Outcome, unread, refused, Check, firstUnmet, verdictOf, judged, wordAt, itemLimit, isTooLarge, isShort, isEmpty, closingOk}
 
 -- ---- traits: "bit 0 set makes every contest set eight words long", and no other bit was known
 
@@ -85,15 +85,15 @@ module _ (f : Format) (eligible : Eligibility) (ws vs : List ℕ) where
   faultIn (some r) h p =
       if not (fits (r .counts) (countOf (getD ws p 0))) then wrongCount
       else if ltb (length ws) (behind f ws p) then truncated
-      else firstUnmet (checks f eligible h (verdictOf f ws vs h) r (itemAt f ws p))
+      else firstUnmet (checks f eligible h (verdictOf vs h) r (itemAt f ws p))
 
   abbrev pub fault : History → ℕ → ℕ
   fault h p = faultIn (rowOf f (getD ws p 0)) h p
 
   unfoldable pub items : ℕ → History → ℕ → Outcome
   unfolding wordAt
-  items zero h p = wordAt f ws vs h p (refused tooLarge (length h))
-  items (suc k) h p = wordAt f ws vs h p (judged f ws vs (fault h p) h (items k (grown f ws h p) (behind f ws p)))
+  items zero h p = wordAt ws (closingOk ws vs) h p (refused tooLarge (length h))
+  items (suc k) h p = wordAt ws (closingOk ws vs) h p (judged (fault h p) h (items k (grown f ws h p) (behind f ws p)))
 
 unfoldable pub audit : Format → (board verdicts roll : List ℕ) → (index ballots : ℕ) → Outcome
 unfolding if_then_else_

@@ -9,3 +9,4 @@ pub mod SampleCurves
 pub mod SampleGrowth
 pub mod SampleReceipts
 pub mod SampleNotes
+pub mod SamplePlan

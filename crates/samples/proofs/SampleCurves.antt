@@ -20,7 +20,7 @@ use Rattle.model.specs.Only.{onBoardOk, underParentOk, underBallotOk, onlyOk}
 use Rattle.model.specs.Content.{contestsOk, mayVote, cryptogramsOk, genesisOk, contestOk, thresholdOk, authorizerOk, roundOk, sessionOk, commitmentOk, ballotOk, fingerprintOk, trusteesOk, contentOk}
 use Rattle.model.specs.Roll.{electors, rising, isBadRoll, onRoll, onRollOk}
 use Rattle.model.specs.Keys.{opening, keyOf, verdictOk, keyOk, signatureOk}
-use Rattle.model.specs.Audit.{refused, accepted, firstUnmet, checks, faultIn, closing, judged, wordAt, items, audit, indexNeed, ballotNeed}
+use Rattle.model.specs.Audit.{refused, accepted, firstUnmet, checks, faultIn, headFault, closing, judged, wordAt, items, reading, audit, indexNeed, ballotNeed}
 use Rattle.model.specs.Report.{filled, reportOf}
 use Rattle.model.specs.Sound.{Sound}
 use Rattle.model.specs.Compare.{apart, same, collision, backwards, compare}
@@ -31,14 +31,14 @@ use Rattle.samples.proofs.SampleElection.{toys, Signed, _by_, itemOn, k
 use Rattle.samples.proofs.SampleWide.{wideOn}
 
 -- the sample election, written on a curve with these traits. A commitment's last word has the lowest bit that it may have
-abbrev on : Curve → ℕ → List Signed
+abbrev pub on : Curve → ℕ → List Signed
 on c traits = electionOn c (traits ∷ []) (2 ^ c .spare) 0x80000 (replicate 8 0x80000)
 
 -- "1 SHA-384, 2 SHA-512" in bits 1 and 2
 abbrev pub larger : List Signed
 larger = on secp384r1 2
 
-abbrev largest : List Signed
+abbrev pub largest : List Signed
 largest = on secp521r1 4
 
 abbrev pub formatIn : List Signed → Format
@@ -54,7 +54,7 @@ unfolding traitsOf traitsKnown setWords curveOf wordsIn wordsOf hashed if_then_e
 formats-are = (refl, refl)
 
 all-accepted : (items-in (ownAnswer larger) ≡ 21) × (items-in (ownAnswer largest) ≡ 21)
-unfolding traitsOf setWords curveOf wordsIn verdictsIn wordsOf hashed if_then_else_ _⇒_ part any count keep latest onesIn kindOf codeOf countOf sameWords pair lowZero bit inWords size everyBelow allIn itemLength itemAt rowOf rowIn table fits entry firstFrom lastFrom mainItem endAfter endAddress parentNumber sessionNumber entryOf placeOf history voteOf counted contents addressOk previousOk parentOk timeOk rounds isOpen extractionOk openOk standingOk latestOk intentOk spoiledOk phaseOk onBoardOk underParentOk underBallotOk onlyOk contestsOk mayVote cryptogramsOk genesisOk traitsKnown contestOk thresholdOk authorizerOk roundOk sessionOk commitmentOk ballotOk fingerprintOk trusteesOk contentOk electors rising isBadRoll onRoll onRollOk opening keyOf verdictOk keyOk signatureOk firstUnmet checks faultIn closing judged wordAt items audit items-in
+unfolding traitsOf setWords curveOf wordsIn verdictsIn wordsOf hashed if_then_else_ _⇒_ part any count keep latest onesIn kindOf codeOf countOf sameWords pair lowZero bit inWords size everyBelow allIn itemLength itemAt rowOf rowIn table fits entry firstFrom lastFrom mainItem endAfter endAddress parentNumber sessionNumber entryOf placeOf history voteOf counted contents addressOk previousOk parentOk timeOk rounds isOpen extractionOk openOk standingOk latestOk intentOk spoiledOk phaseOk onBoardOk underParentOk underBallotOk onlyOk contestsOk mayVote cryptogramsOk genesisOk traitsKnown contestOk thresholdOk authorizerOk roundOk sessionOk commitmentOk ballotOk fingerprintOk trusteesOk contentOk electors rising isBadRoll onRoll onRollOk opening keyOf verdictOk keyOk signatureOk firstUnmet checks faultIn headFault closing judged wordAt reading audit items-in
 all-accepted = (refl, refl)
 
 module _ (ss : List Signed) (all : items-in (ownAnswer ss) ≡ 21) where
@@ -101,7 +101,7 @@ largest-reported = report-by (past largest) (length-history (formatIn largest) (
 
 -- with sets of eight words
 pub wide-accepted : (items-in (ownAnswer (wideOn secp384r1 3)) ≡ 11) × (items-in (ownAnswer (wideOn secp521r1 5)) ≡ 11)
-unfolding wideOn traitsOf setWords curveOf wordsIn verdictsIn wordsOf hashed if_then_else_ _⇒_ part any count keep latest onesIn kindOf codeOf countOf sameWords pair lowZero bit inWords size everyBelow allIn itemLength itemAt rowOf rowIn table fits entry firstFrom lastFrom mainItem endAfter endAddress parentNumber sessionNumber entryOf placeOf history voteOf counted contents addressOk previousOk parentOk timeOk rounds isOpen extractionOk openOk standingOk latestOk intentOk spoiledOk phaseOk onBoardOk underParentOk underBallotOk onlyOk contestsOk mayVote cryptogramsOk genesisOk traitsKnown contestOk thresholdOk authorizerOk roundOk sessionOk commitmentOk ballotOk fingerprintOk trusteesOk contentOk electors rising isBadRoll onRoll onRollOk opening keyOf verdictOk keyOk signatureOk firstUnmet checks faultIn closing judged wordAt items audit items-in
+unfolding wideOn traitsOf setWords curveOf wordsIn verdictsIn wordsOf hashed if_then_else_ _⇒_ part any count keep latest onesIn kindOf codeOf countOf sameWords pair lowZero bit inWords size everyBelow allIn itemLength itemAt rowOf rowIn table fits entry firstFrom lastFrom mainItem endAfter endAddress parentNumber sessionNumber entryOf placeOf history voteOf counted contents addressOk previousOk parentOk timeOk rounds isOpen extractionOk openOk standingOk latestOk intentOk spoiledOk phaseOk onBoardOk underParentOk underBallotOk onlyOk contestsOk mayVote cryptogramsOk genesisOk traitsKnown contestOk thresholdOk authorizerOk roundOk sessionOk commitmentOk ballotOk fingerprintOk trusteesOk contentOk electors rising isBadRoll onRoll onRollOk opening keyOf verdictOk keyOk signatureOk firstUnmet checks faultIn headFault closing judged wordAt reading audit items-in
 wide-accepted = (refl, refl)
 
 -- ---- one thing changed
@@ -110,7 +110,7 @@ wide-accepted = (refl, refl)
 abbrev signatures : ℕ → Curve → Curve
 signatures n c = record { address = c .address; signature = n; commitment = c .commitment; spare = c .spare; cryptogram = c .cryptogram; hash = c .hash }
 
-abbrev commitments : ℕ → Curve → Curve
+abbrev pub commitments : ℕ → Curve → Curve
 commitments n c = record { address = c .address; signature = c .signature; commitment = n; spare = c .spare; cryptogram = c .cryptogram; hash = c .hash }
 
 abbrev cryptograms : ℕ → Curve → Curve
@@ -122,42 +122,47 @@ hashedBy hash c = record { address = c .address; signature = c .signature; commi
 -- signatures of another curve's width: the genesis is read amiss, and alone it is too short
 pub other-signatures : (ownAnswer (on (signatures 16 secp384r1) 2) ≡ refused 7 0) × (ownAnswer (on (signatures 33 secp384r1) 2) ≡ refused 7 0)
     × (ownAnswer (on (signatures 24 secp521r1) 4) ≡ refused 7 0) × (ownAnswer (take 1 (on (signatures 24 secp521r1) 4)) ≡ refused 4 0)
-unfolding traitsOf setWords curveOf wordsIn verdictsIn wordsOf hashed if_then_else_ _⇒_ part any count keep latest onesIn kindOf codeOf countOf sameWords pair lowZero bit inWords size everyBelow allIn itemLength itemAt rowOf rowIn table fits entry firstFrom lastFrom mainItem endAfter endAddress parentNumber sessionNumber entryOf placeOf history voteOf counted contents addressOk previousOk parentOk timeOk rounds isOpen extractionOk openOk standingOk latestOk intentOk spoiledOk phaseOk onBoardOk underParentOk underBallotOk onlyOk contestsOk mayVote cryptogramsOk genesisOk traitsKnown contestOk thresholdOk authorizerOk roundOk sessionOk commitmentOk ballotOk fingerprintOk trusteesOk contentOk electors rising isBadRoll onRoll onRollOk opening keyOf verdictOk keyOk signatureOk firstUnmet checks faultIn closing judged wordAt items audit items-in
+unfolding traitsOf setWords curveOf wordsIn verdictsIn wordsOf hashed if_then_else_ _⇒_ part any count keep latest onesIn kindOf codeOf countOf sameWords pair lowZero bit inWords size everyBelow allIn itemLength itemAt rowOf rowIn table fits entry firstFrom lastFrom mainItem endAfter endAddress parentNumber sessionNumber entryOf placeOf history voteOf counted contents addressOk previousOk parentOk timeOk rounds isOpen extractionOk openOk standingOk latestOk intentOk spoiledOk phaseOk onBoardOk underParentOk underBallotOk onlyOk contestsOk mayVote cryptogramsOk genesisOk traitsKnown contestOk thresholdOk authorizerOk roundOk sessionOk commitmentOk ballotOk fingerprintOk trusteesOk contentOk electors rising isBadRoll onRoll onRollOk opening keyOf verdictOk keyOk signatureOk firstUnmet checks faultIn headFault closing judged wordAt reading audit items-in
 other-signatures = (refl, refl, refl, refl)
 
 -- another hash's digests, cut to an address or filled up
 pub other-hashes : (ownAnswer (on (hashedBy (λ s ws. take 12 (s .sha512 ws)) secp384r1) 2) ≡ refused 7 0)
     × (ownAnswer (on (hashedBy (λ s ws. s .sha384 ws ++ replicate 4 0) secp521r1) 4) ≡ refused 7 0)
-unfolding traitsOf setWords curveOf wordsIn verdictsIn wordsOf hashed if_then_else_ _⇒_ part any count keep latest onesIn kindOf codeOf countOf sameWords pair lowZero bit inWords size everyBelow allIn itemLength itemAt rowOf rowIn table fits entry firstFrom lastFrom mainItem endAfter endAddress parentNumber sessionNumber entryOf placeOf history voteOf counted contents addressOk previousOk parentOk timeOk rounds isOpen extractionOk openOk standingOk latestOk intentOk spoiledOk phaseOk onBoardOk underParentOk underBallotOk onlyOk contestsOk mayVote cryptogramsOk genesisOk traitsKnown contestOk thresholdOk authorizerOk roundOk sessionOk commitmentOk ballotOk fingerprintOk trusteesOk contentOk electors rising isBadRoll onRoll onRollOk opening keyOf verdictOk keyOk signatureOk firstUnmet checks faultIn closing judged wordAt items audit items-in
+unfolding traitsOf setWords curveOf wordsIn verdictsIn wordsOf hashed if_then_else_ _⇒_ part any count keep latest onesIn kindOf codeOf countOf sameWords pair lowZero bit inWords size everyBelow allIn itemLength itemAt rowOf rowIn table fits entry firstFrom lastFrom mainItem endAfter endAddress parentNumber sessionNumber entryOf placeOf history voteOf counted contents addressOk previousOk parentOk timeOk rounds isOpen extractionOk openOk standingOk latestOk intentOk spoiledOk phaseOk onBoardOk underParentOk underBallotOk onlyOk contestsOk mayVote cryptogramsOk genesisOk traitsKnown contestOk thresholdOk authorizerOk roundOk sessionOk commitmentOk ballotOk fingerprintOk trusteesOk contentOk electors rising isBadRoll onRoll onRollOk opening keyOf verdictOk keyOk signatureOk firstUnmet checks faultIn headFault closing judged wordAt reading audit items-in
 other-hashes = (refl, refl)
 
 -- commitments and cryptograms of another curve's width
 pub other-widths : (ownAnswer (on (commitments 9 secp384r1) 2) ≡ refused 6 6) × (ownAnswer (on (commitments 13 secp521r1) 4) ≡ refused 6 6)
     × (ownAnswer (on (cryptograms 17 secp384r1) 2) ≡ refused 6 8) × (ownAnswer (on (cryptograms 25 secp521r1) 4) ≡ refused 6 8)
-unfolding traitsOf setWords curveOf wordsIn verdictsIn wordsOf hashed if_then_else_ _⇒_ part any count keep latest onesIn kindOf codeOf countOf sameWords pair lowZero bit inWords size everyBelow allIn itemLength itemAt rowOf rowIn table fits entry firstFrom lastFrom mainItem endAfter endAddress parentNumber sessionNumber entryOf placeOf history voteOf counted contents addressOk previousOk parentOk timeOk rounds isOpen extractionOk openOk standingOk latestOk intentOk spoiledOk phaseOk onBoardOk underParentOk underBallotOk onlyOk contestsOk mayVote cryptogramsOk genesisOk traitsKnown contestOk thresholdOk authorizerOk roundOk sessionOk commitmentOk ballotOk fingerprintOk trusteesOk contentOk electors rising isBadRoll onRoll onRollOk opening keyOf verdictOk keyOk signatureOk firstUnmet checks faultIn closing judged wordAt items audit items-in
+unfolding traitsOf setWords curveOf wordsIn verdictsIn wordsOf hashed if_then_else_ _⇒_ part any count keep latest onesIn kindOf codeOf countOf sameWords pair lowZero bit inWords size everyBelow allIn itemLength itemAt rowOf rowIn table fits entry firstFrom lastFrom mainItem endAfter endAddress parentNumber sessionNumber entryOf placeOf history voteOf counted contents addressOk previousOk parentOk timeOk rounds isOpen extractionOk openOk standingOk latestOk intentOk spoiledOk phaseOk onBoardOk underParentOk underBallotOk onlyOk contestsOk mayVote cryptogramsOk genesisOk traitsKnown contestOk thresholdOk authorizerOk roundOk sessionOk commitmentOk ballotOk fingerprintOk trusteesOk contentOk electors rising isBadRoll onRoll onRollOk opening keyOf verdictOk keyOk signatureOk firstUnmet checks faultIn headFault closing judged wordAt reading audit items-in
 other-widths = (refl, refl, refl, refl)
 
 -- the last words: of the commitments the lowest 24 bits on secp384r1, and 8 on secp521r1, of a cryptogram 16 on both; and a fingerprint by the
 -- curve's own hash in place of SHA-256
-abbrev ending : Curve → ℕ → ℕ → ℕ → List Signed
+abbrev pub ending : Curve → ℕ → ℕ → ℕ → List Signed
 ending c traits commitment cryptogram = electionOn c (traits ∷ []) commitment cryptogram (replicate 8 0x80000)
 
 pub low-bits : (ownAnswer (ending secp384r1 2 0x800000 0x80000) ≡ refused 13 6) × (ownAnswer (ending secp521r1 4 0x80 0x80000) ≡ refused 13 6)
     × (ownAnswer (ending secp384r1 2 0 0x88000) ≡ refused 13 16) × (ownAnswer (ending secp521r1 4 0 0x88000) ≡ refused 13 16)
-unfolding traitsOf setWords curveOf wordsIn verdictsIn wordsOf hashed if_then_else_ _⇒_ part any count keep latest onesIn kindOf codeOf countOf sameWords pair lowZero bit inWords size everyBelow allIn itemLength itemAt rowOf rowIn table fits entry firstFrom lastFrom mainItem endAfter endAddress parentNumber sessionNumber entryOf placeOf history voteOf counted contents addressOk previousOk parentOk timeOk rounds isOpen extractionOk openOk standingOk latestOk intentOk spoiledOk phaseOk onBoardOk underParentOk underBallotOk onlyOk contestsOk mayVote cryptogramsOk genesisOk traitsKnown contestOk thresholdOk authorizerOk roundOk sessionOk commitmentOk ballotOk fingerprintOk trusteesOk contentOk electors rising isBadRoll onRoll onRollOk opening keyOf verdictOk keyOk signatureOk firstUnmet checks faultIn closing judged wordAt items audit items-in
+unfolding traitsOf setWords curveOf wordsIn verdictsIn wordsOf hashed if_then_else_ _⇒_ part any count keep latest onesIn kindOf codeOf countOf sameWords pair lowZero bit inWords size everyBelow allIn itemLength itemAt rowOf rowIn table fits entry firstFrom lastFrom mainItem endAfter endAddress parentNumber sessionNumber entryOf placeOf history voteOf counted contents addressOk previousOk parentOk timeOk rounds isOpen extractionOk openOk standingOk latestOk intentOk spoiledOk phaseOk onBoardOk underParentOk underBallotOk onlyOk contestsOk mayVote cryptogramsOk genesisOk traitsKnown contestOk thresholdOk authorizerOk roundOk sessionOk commitmentOk ballotOk fingerprintOk trusteesOk contentOk electors rising isBadRoll onRoll onRollOk opening keyOf verdictOk keyOk signatureOk firstUnmet checks faultIn headFault closing judged wordAt reading audit items-in
 low-bits = (refl, refl, refl, refl)
 
 pub own-fingerprints : (ownAnswer (electionOn secp384r1 (2 ∷ []) 0 0x80000 (replicate 8 (384 * 0x80000))) ≡ refused 13 19)
     × (ownAnswer (electionOn secp521r1 (4 ∷ []) 0 0x80000 (replicate 8 (512 * 0x80000))) ≡ refused 13 19)
-unfolding traitsOf setWords curveOf wordsIn verdictsIn wordsOf hashed if_then_else_ _⇒_ part any count keep latest onesIn kindOf codeOf countOf sameWords pair lowZero bit inWords size everyBelow allIn itemLength itemAt rowOf rowIn table fits entry firstFrom lastFrom mainItem endAfter endAddress parentNumber sessionNumber entryOf placeOf history voteOf counted contents addressOk previousOk parentOk timeOk rounds isOpen extractionOk openOk standingOk latestOk intentOk spoiledOk phaseOk onBoardOk underParentOk underBallotOk onlyOk contestsOk mayVote cryptogramsOk genesisOk traitsKnown contestOk thresholdOk authorizerOk roundOk sessionOk commitmentOk ballotOk fingerprintOk trusteesOk contentOk electors rising isBadRoll onRoll onRollOk opening keyOf verdictOk keyOk signatureOk firstUnmet checks faultIn closing judged wordAt items audit items-in
+unfolding traitsOf setWords curveOf wordsIn verdictsIn wordsOf hashed if_then_else_ _⇒_ part any count keep latest onesIn kindOf codeOf countOf sameWords pair lowZero bit inWords size everyBelow allIn itemLength itemAt rowOf rowIn table fits entry firstFrom lastFrom mainItem endAfter endAddress parentNumber sessionNumber entryOf placeOf history voteOf counted contents addressOk previousOk parentOk timeOk rounds isOpen extractionOk openOk standingOk latestOk intentOk spoiledOk phaseOk onBoardOk underParentOk underBallotOk onlyOk contestsOk mayVote cryptogramsOk genesisOk traitsKnown contestOk thresholdOk authorizerOk roundOk sessionOk commitmentOk ballotOk fingerprintOk trusteesOk contentOk electors rising isBadRoll onRoll onRollOk opening keyOf verdictOk keyOk signatureOk firstUnmet checks faultIn headFault closing judged wordAt reading audit items-in
 own-fingerprints = (refl, refl)
+
+-- a verdict word left over
+pub left-over : audit (formatIn larger) (boardOf larger) (verdictsIn larger ++ (0 ∷ [])) roll indexNeed ballotNeed ≡ refused 18 21
+unfolding traitsOf setWords curveOf wordsIn verdictsIn wordsOf hashed if_then_else_ _⇒_ part any count keep latest onesIn kindOf codeOf countOf sameWords pair lowZero bit inWords size everyBelow allIn itemLength itemAt rowOf rowIn table fits entry firstFrom lastFrom mainItem endAfter endAddress parentNumber sessionNumber entryOf placeOf history voteOf counted contents addressOk previousOk parentOk timeOk rounds isOpen extractionOk openOk standingOk latestOk intentOk spoiledOk phaseOk onBoardOk underParentOk underBallotOk onlyOk contestsOk mayVote cryptogramsOk genesisOk traitsKnown contestOk thresholdOk authorizerOk roundOk sessionOk commitmentOk ballotOk fingerprintOk trusteesOk contentOk electors rising isBadRoll onRoll onRollOk opening keyOf verdictOk keyOk signatureOk firstUnmet checks faultIn headFault closing judged wordAt reading audit items-in
+left-over = refl
 
 -- ---- traits
 
 -- 6 and 7 would choose curve 3, and 8 has another bit: 13 with today's widths, and 7 with those of a larger curve, whose address stands elsewhere
 pub unknown-traits : (ownAnswer (on secp256r1 6) ≡ refused 13 0) × (ownAnswer (on secp256r1 7) ≡ refused 13 0) × (ownAnswer (on secp256r1 8) ≡ refused 13 0)
     × (ownAnswer (on secp384r1 6) ≡ refused 7 0) × (ownAnswer (on secp521r1 7) ≡ refused 7 0) × (ownAnswer (on secp384r1 8) ≡ refused 7 0)
-unfolding traitsOf setWords curveOf wordsIn verdictsIn wordsOf hashed if_then_else_ _⇒_ part any count keep latest onesIn kindOf codeOf countOf sameWords pair lowZero bit inWords size everyBelow allIn itemLength itemAt rowOf rowIn table fits entry firstFrom lastFrom mainItem endAfter endAddress parentNumber sessionNumber entryOf placeOf history voteOf counted contents addressOk previousOk parentOk timeOk rounds isOpen extractionOk openOk standingOk latestOk intentOk spoiledOk phaseOk onBoardOk underParentOk underBallotOk onlyOk contestsOk mayVote cryptogramsOk genesisOk traitsKnown contestOk thresholdOk authorizerOk roundOk sessionOk commitmentOk ballotOk fingerprintOk trusteesOk contentOk electors rising isBadRoll onRoll onRollOk opening keyOf verdictOk keyOk signatureOk firstUnmet checks faultIn closing judged wordAt items audit items-in
+unfolding traitsOf setWords curveOf wordsIn verdictsIn wordsOf hashed if_then_else_ _⇒_ part any count keep latest onesIn kindOf codeOf countOf sameWords pair lowZero bit inWords size everyBelow allIn itemLength itemAt rowOf rowIn table fits entry firstFrom lastFrom mainItem endAfter endAddress parentNumber sessionNumber entryOf placeOf history voteOf counted contents addressOk previousOk parentOk timeOk rounds isOpen extractionOk openOk standingOk latestOk intentOk spoiledOk phaseOk onBoardOk underParentOk underBallotOk onlyOk contestsOk mayVote cryptogramsOk genesisOk traitsKnown contestOk thresholdOk authorizerOk roundOk sessionOk commitmentOk ballotOk fingerprintOk trusteesOk contentOk electors rising isBadRoll onRoll onRollOk opening keyOf verdictOk keyOk signatureOk firstUnmet checks faultIn headFault closing judged wordAt reading audit items-in
 unknown-traits = (refl, refl, refl, refl, refl, refl)
 
 -- the traits of one curve on a board of another: the address stands elsewhere, or a genesis alone is too short. With bit 0 where sets have one
@@ -165,7 +170,7 @@ unknown-traits = (refl, refl, refl, refl, refl, refl)
 pub other-traits : (ownAnswer (on secp256r1 2) ≡ refused 7 0) × (ownAnswer (on secp521r1 2) ≡ refused 7 0) × (ownAnswer (on secp384r1 0) ≡ refused 7 0)
     × (ownAnswer (take 1 (on secp256r1 2)) ≡ refused 4 0) × (ownAnswer (take 1 (on secp384r1 4)) ≡ refused 4 0)
     × (ownAnswer (on secp384r1 3) ≡ refused 6 4) × (ownAnswer (wideOn secp521r1 4) ≡ refused 13 1)
-unfolding wideOn traitsOf setWords curveOf wordsIn verdictsIn wordsOf hashed if_then_else_ _⇒_ part any count keep latest onesIn kindOf codeOf countOf sameWords pair lowZero bit inWords size everyBelow allIn itemLength itemAt rowOf rowIn table fits entry firstFrom lastFrom mainItem endAfter endAddress parentNumber sessionNumber entryOf placeOf history voteOf counted contents addressOk previousOk parentOk timeOk rounds isOpen extractionOk openOk standingOk latestOk intentOk spoiledOk phaseOk onBoardOk underParentOk underBallotOk onlyOk contestsOk mayVote cryptogramsOk genesisOk traitsKnown contestOk thresholdOk authorizerOk roundOk sessionOk commitmentOk ballotOk fingerprintOk trusteesOk contentOk electors rising isBadRoll onRoll onRollOk opening keyOf verdictOk keyOk signatureOk firstUnmet checks faultIn closing judged wordAt items audit items-in
+unfolding wideOn traitsOf setWords curveOf wordsIn verdictsIn wordsOf hashed if_then_else_ _⇒_ part any count keep latest onesIn kindOf codeOf countOf sameWords pair lowZero bit inWords size everyBelow allIn itemLength itemAt rowOf rowIn table fits entry firstFrom lastFrom mainItem endAfter endAddress parentNumber sessionNumber entryOf placeOf history voteOf counted contents addressOk previousOk parentOk timeOk rounds isOpen extractionOk openOk standingOk latestOk intentOk spoiledOk phaseOk onBoardOk underParentOk underBallotOk onlyOk contestsOk mayVote cryptogramsOk genesisOk traitsKnown contestOk thresholdOk authorizerOk roundOk sessionOk commitmentOk ballotOk fingerprintOk trusteesOk contentOk electors rising isBadRoll onRoll onRollOk opening keyOf verdictOk keyOk signatureOk firstUnmet checks faultIn headFault closing judged wordAt reading audit items-in
 other-traits = (refl, refl, refl, refl, refl, refl, refl)
 
 -- ---- comparing
@@ -183,7 +188,7 @@ pub two-curves : (comparing (genesis secp256r1 0 384) (genesis secp384r1 2 1) 1 
     × (comparing (genesis secp384r1 2 4) (genesis secp521r1 4 3) 1 ≡ compared apart)
     × (comparing (genesis secp256r1 0 384) (genesis secp384r1 2 1) 0 ≡ refusedBoard laterBoard 19 1)
     × (comparing (genesis secp256r1 0 384) (genesis secp384r1 2 1) 2 ≡ refusedBoard laterBoard 19 1)
-unfolding comparingAnswer answerLater compare backwards traitsOf setWords curveOf wordsIn verdictsIn wordsOf hashed if_then_else_ _⇒_ part any count keep latest onesIn kindOf codeOf countOf sameWords pair lowZero bit inWords size everyBelow allIn itemLength itemAt rowOf rowIn table fits entry firstFrom lastFrom mainItem endAfter endAddress parentNumber sessionNumber entryOf placeOf history voteOf counted contents addressOk previousOk parentOk timeOk rounds isOpen extractionOk openOk standingOk latestOk intentOk spoiledOk phaseOk onBoardOk underParentOk underBallotOk onlyOk contestsOk mayVote cryptogramsOk genesisOk traitsKnown contestOk thresholdOk authorizerOk roundOk sessionOk commitmentOk ballotOk fingerprintOk trusteesOk contentOk electors rising isBadRoll onRoll onRollOk opening keyOf verdictOk keyOk signatureOk firstUnmet checks faultIn closing judged wordAt items audit items-in
+unfolding comparingAnswer answerLater compare backwards traitsOf setWords curveOf wordsIn verdictsIn wordsOf hashed if_then_else_ _⇒_ part any count keep latest onesIn kindOf codeOf countOf sameWords pair lowZero bit inWords size everyBelow allIn itemLength itemAt rowOf rowIn table fits entry firstFrom lastFrom mainItem endAfter endAddress parentNumber sessionNumber entryOf placeOf history voteOf counted contents addressOk previousOk parentOk timeOk rounds isOpen extractionOk openOk standingOk latestOk intentOk spoiledOk phaseOk onBoardOk underParentOk underBallotOk onlyOk contestsOk mayVote cryptogramsOk genesisOk traitsKnown contestOk thresholdOk authorizerOk roundOk sessionOk commitmentOk ballotOk fingerprintOk trusteesOk contentOk electors rising isBadRoll onRoll onRollOk opening keyOf verdictOk keyOk signatureOk firstUnmet checks faultIn headFault closing judged wordAt reading audit items-in
 two-curves = (refl, refl, refl, refl, refl)
 
 -- boards of one curve compare as ever, whatever the widths of their sets: the toy hash is of the time alone, so one more trait collides
@@ -191,5 +196,5 @@ pub one-curve : (comparing (genesis secp384r1 2 1) (genesis secp384r1 2 1) 1 ≡
     × (comparing (genesis secp384r1 2 1) (genesis secp384r1 2 5) 1 ≡ compared apart)
     × (comparing (genesis secp384r1 2 1) (genesis secp384r1 3 1) 1 ≡ compared (collision 1 1))
     × (comparing (genesis secp521r1 5 1) (genesis secp521r1 5 1) 1 ≡ compared same)
-unfolding comparingAnswer answerLater compare backwards traitsOf setWords curveOf wordsIn verdictsIn wordsOf hashed if_then_else_ _⇒_ part any count keep latest onesIn kindOf codeOf countOf sameWords pair lowZero bit inWords size everyBelow allIn itemLength itemAt rowOf rowIn table fits entry firstFrom lastFrom mainItem endAfter endAddress parentNumber sessionNumber entryOf placeOf history voteOf counted contents addressOk previousOk parentOk timeOk rounds isOpen extractionOk openOk standingOk latestOk intentOk spoiledOk phaseOk onBoardOk underParentOk underBallotOk onlyOk contestsOk mayVote cryptogramsOk genesisOk traitsKnown contestOk thresholdOk authorizerOk roundOk sessionOk commitmentOk ballotOk fingerprintOk trusteesOk contentOk electors rising isBadRoll onRoll onRollOk opening keyOf verdictOk keyOk signatureOk firstUnmet checks faultIn closing judged wordAt items audit items-in
+unfolding comparingAnswer answerLater compare backwards traitsOf setWords curveOf wordsIn verdictsIn wordsOf hashed if_then_else_ _⇒_ part any count keep latest onesIn kindOf codeOf countOf sameWords pair lowZero bit inWords size everyBelow allIn itemLength itemAt rowOf rowIn table fits entry firstFrom lastFrom mainItem endAfter endAddress parentNumber sessionNumber entryOf placeOf history voteOf counted contents addressOk previousOk parentOk timeOk rounds isOpen extractionOk openOk standingOk latestOk intentOk spoiledOk phaseOk onBoardOk underParentOk underBallotOk onlyOk contestsOk mayVote cryptogramsOk genesisOk traitsKnown contestOk thresholdOk authorizerOk roundOk sessionOk commitmentOk ballotOk fingerprintOk trusteesOk contentOk electors rising isBadRoll onRoll onRollOk opening keyOf verdictOk keyOk signatureOk firstUnmet checks faultIn headFault closing judged wordAt reading audit items-in
 one-curve = (refl, refl, refl, refl)

@@ -21,7 +21,7 @@ use Rattle.model.specs.Only.{onBoardOk, underParentOk, underBallotOk, onlyOk}
 use Rattle.model.specs.Content.{contestsOk, mayVote, cryptogramsOk, genesisOk, contestOk, thresholdOk, authorizerOk, roundOk, sessionOk, commitmentOk, ballotOk, fingerprintOk, trusteesOk, contentOk}
 use Rattle.model.specs.Roll.{electors, rising, isBadRoll, onRoll, onRollOk}
 use Rattle.model.specs.Keys.{opening, keyOf, goodVerdict, verdictOk, keyOk, signatureOk}
-use Rattle.model.specs.Audit.{Outcome, unread, refused, accepted, firstUnmet, checks, faultIn, closing, judged, wordAt, items, audit, indexNeed, ballotNeed}
+use Rattle.model.specs.Audit.{Outcome, unread, refused, accepted, firstUnmet, checks, faultIn, headFault, closing, judged, wordAt, items, reading, audit, indexNeed, ballotNeed}
 use Rattle.model.specs.Report.{filled, reportOf, numberWord, indexRowOf, indexRows, ballotRows}
 use Rattle.model.specs.Sound.{Sound}
 use Rattle.model.specs.Ancestry.{upTo, ancestry}
@@ -139,7 +139,7 @@ items-in (refused n k) = 0
 items-in (accepted h) = length h
 
 all-accepted : items-in (audit toy board verdicts roll indexNeed ballotNeed) ≡ 21
-unfolding election wordsIn verdictsIn wordsOf hashed if_then_else_ _⇒_ part any count keep latest onesIn kindOf codeOf countOf sameWords pair lowZero bit inWords size everyBelow allIn itemLength itemAt rowOf rowIn table fits entry firstFrom lastFrom mainItem endAfter endAddress parentNumber sessionNumber entryOf placeOf history voteOf counted contents addressOk previousOk parentOk timeOk rounds isOpen extractionOk openOk standingOk latestOk intentOk spoiledOk phaseOk onBoardOk underParentOk underBallotOk onlyOk contestsOk mayVote cryptogramsOk genesisOk traitsKnown contestOk thresholdOk authorizerOk roundOk sessionOk commitmentOk ballotOk fingerprintOk trusteesOk contentOk electors rising isBadRoll onRoll onRollOk opening keyOf verdictOk keyOk signatureOk firstUnmet checks faultIn closing judged wordAt items audit items-in
+unfolding election wordsIn verdictsIn wordsOf hashed if_then_else_ _⇒_ part any count keep latest onesIn kindOf codeOf countOf sameWords pair lowZero bit inWords size everyBelow allIn itemLength itemAt rowOf rowIn table fits entry firstFrom lastFrom mainItem endAfter endAddress parentNumber sessionNumber entryOf placeOf history voteOf counted contents addressOk previousOk parentOk timeOk rounds isOpen extractionOk openOk standingOk latestOk intentOk spoiledOk phaseOk onBoardOk underParentOk underBallotOk onlyOk contestsOk mayVote cryptogramsOk genesisOk traitsKnown contestOk thresholdOk authorizerOk roundOk sessionOk commitmentOk ballotOk fingerprintOk trusteesOk contentOk electors rising isBadRoll onRoll onRollOk opening keyOf verdictOk keyOk signatureOk firstUnmet checks faultIn headFault closing judged wordAt reading audit items-in
 all-accepted = refl
 
 -- so it is accepted, with its first items

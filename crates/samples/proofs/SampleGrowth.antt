@@ -22,7 +22,7 @@ use Rattle.model.specs.Only.{onBoardOk, underParentOk, underBallotOk, onlyOk}
 use Rattle.model.specs.Content.{contestsOk, mayVote, cryptogramsOk, genesisOk, contestOk, thresholdOk, authorizerOk, roundOk, sessionOk, commitmentOk, ballotOk, fingerprintOk, trusteesOk, contentOk}
 use Rattle.model.specs.Roll.{electors, rising, isBadRoll, onRoll, onRollOk}
 use Rattle.model.specs.Keys.{opening, keyOf, verdictOk, keyOk, signatureOk}
-use Rattle.model.specs.Audit.{accepted, firstUnmet, checks, faultIn, closing, judged, wordAt, items, audit, indexNeed, ballotNeed}
+use Rattle.model.specs.Audit.{accepted, firstUnmet, checks, faultIn, headFault, closing, judged, wordAt, items, reading, audit, indexNeed, ballotNeed}
 use Rattle.model.specs.Report.{Report, filled, reportOf, numberWord, indexRowOf, indexRows, ballotRows, tableAfter}
 use Rattle.growth.specs.Growth.{OneMore, Audited, audited, rowsRead, firstOf, newParent, newSession, closedIndex, newVote, newBallots, isNewVoter, follow}
 use Rattle.samples.proofs.SampleElection.{toys, Signed, _by_, item, key, election, wordsIn, verdictsIn, boardOf, roll, ownAnswer, items-in, accepted-by}
@@ -239,7 +239,7 @@ all-accepted : (items-in (ownAnswer sixteen) ≡ 16) × (items-in (ownAnswer (si
     × (items-in (ownAnswer (sixteen then session)) ≡ 17)
     × (items-in (ownAnswer (sixteen then spoil)) ≡ 17) × (items-in (ownAnswer (sixteen then cast)) ≡ 17)
     × (items-in (ownAnswer twentyOne) ≡ 21) × (items-in (ownAnswer (twentyOne then castAgain)) ≡ 22)
-unfolding sixteen twentyOne election traitsOf setWords curveOf wordsIn verdictsIn wordsOf hashed if_then_else_ _⇒_ part any count keep latest onesIn kindOf codeOf countOf sameWords pair lowZero bit inWords size everyBelow allIn itemLength itemAt rowOf rowIn table fits entry firstFrom lastFrom mainItem endAfter endAddress parentNumber sessionNumber entryOf placeOf history voteOf counted contents addressOk previousOk parentOk timeOk rounds isOpen extractionOk openOk standingOk latestOk intentOk spoiledOk phaseOk onBoardOk underParentOk underBallotOk onlyOk contestsOk mayVote cryptogramsOk genesisOk traitsKnown contestOk thresholdOk authorizerOk roundOk sessionOk commitmentOk ballotOk fingerprintOk trusteesOk contentOk electors rising isBadRoll onRoll onRollOk opening keyOf verdictOk keyOk signatureOk firstUnmet checks faultIn closing judged wordAt items audit items-in
+unfolding sixteen twentyOne election traitsOf setWords curveOf wordsIn verdictsIn wordsOf hashed if_then_else_ _⇒_ part any count keep latest onesIn kindOf codeOf countOf sameWords pair lowZero bit inWords size everyBelow allIn itemLength itemAt rowOf rowIn table fits entry firstFrom lastFrom mainItem endAfter endAddress parentNumber sessionNumber entryOf placeOf history voteOf counted contents addressOk previousOk parentOk timeOk rounds isOpen extractionOk openOk standingOk latestOk intentOk spoiledOk phaseOk onBoardOk underParentOk underBallotOk onlyOk contestsOk mayVote cryptogramsOk genesisOk traitsKnown contestOk thresholdOk authorizerOk roundOk sessionOk commitmentOk ballotOk fingerprintOk trusteesOk contentOk electors rising isBadRoll onRoll onRollOk opening keyOf verdictOk keyOk signatureOk firstUnmet checks faultIn headFault closing judged wordAt reading audit items-in
 all-accepted = (refl, refl, refl, refl, refl, refl, refl)
 
 all-told : (told sixteen ≡ afterSixteen) × (told (sixteen then text) ≡ afterText) × (told (sixteen then session) ≡ afterSession)

@@ -22,7 +22,7 @@ use Rattle.model.specs.Only.{onBoardOk, underParentOk, underBallotOk, onlyOk}
 use Rattle.model.specs.Content.{contestsOk, mayVote, cryptogramsOk, genesisOk, contestOk, thresholdOk, authorizerOk, roundOk, sessionOk, commitmentOk, ballotOk, fingerprintOk, trusteesOk, contentOk}
 use Rattle.model.specs.Roll.{electors, rising, isBadRoll, onRoll, onRollOk}
 use Rattle.model.specs.Keys.{opening, keyOf, verdictOk, keyOk, signatureOk}
-use Rattle.model.specs.Audit.{Outcome, unread, refused, accepted, firstUnmet, checks, faultIn, closing, judged, wordAt, items, audit, indexNeed, ballotNeed}
+use Rattle.model.specs.Audit.{Outcome, unread, refused, accepted, firstUnmet, checks, faultIn, headFault, closing, judged, wordAt, items, reading, audit, indexNeed, ballotNeed}
 use Rattle.model.specs.Report.{filled, numberWord}
 use Rattle.model.specs.Above.{checkedFirst, bufferAfter}
 use Rattle.model.specs.Cut.{cutBoard, cutVerdicts}
@@ -122,7 +122,7 @@ twice =
     ∷ [])
 
 twice-accepted : items-in (ownAnswer twice) ≡ 15
-unfolding twice traitsOf setWords curveOf wordsIn verdictsIn wordsOf hashed if_then_else_ _⇒_ part any count keep latest onesIn kindOf codeOf countOf sameWords pair lowZero bit inWords size everyBelow allIn itemLength itemAt rowOf rowIn table fits entry firstFrom lastFrom mainItem endAfter endAddress parentNumber sessionNumber entryOf placeOf history voteOf counted contents addressOk previousOk parentOk timeOk rounds isOpen extractionOk openOk standingOk latestOk intentOk spoiledOk phaseOk onBoardOk underParentOk underBallotOk onlyOk contestsOk mayVote cryptogramsOk genesisOk traitsKnown contestOk thresholdOk authorizerOk roundOk sessionOk commitmentOk ballotOk fingerprintOk trusteesOk contentOk electors rising isBadRoll onRoll onRollOk opening keyOf verdictOk keyOk signatureOk firstUnmet checks faultIn closing judged wordAt items audit items-in
+unfolding twice traitsOf setWords curveOf wordsIn verdictsIn wordsOf hashed if_then_else_ _⇒_ part any count keep latest onesIn kindOf codeOf countOf sameWords pair lowZero bit inWords size everyBelow allIn itemLength itemAt rowOf rowIn table fits entry firstFrom lastFrom mainItem endAfter endAddress parentNumber sessionNumber entryOf placeOf history voteOf counted contents addressOk previousOk parentOk timeOk rounds isOpen extractionOk openOk standingOk latestOk intentOk spoiledOk phaseOk onBoardOk underParentOk underBallotOk onlyOk contestsOk mayVote cryptogramsOk genesisOk traitsKnown contestOk thresholdOk authorizerOk roundOk sessionOk commitmentOk ballotOk fingerprintOk trusteesOk contentOk electors rising isBadRoll onRoll onRollOk opening keyOf verdictOk keyOk signatureOk firstUnmet checks faultIn headFault closing judged wordAt reading audit items-in
 twice-accepted = refl
 
 abbrev pub pastTwice : History

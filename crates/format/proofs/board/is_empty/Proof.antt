@@ -1,8 +1,8 @@
 -- `is_empty` meets its contract. Assumes nothing.
-use Rattle.audit.proofs.Loop.{empty-none, empty-first}
 use borrow.Author.Needs.{needs}
-use Rattle.audit.proofs.run.is_empty.Statement.{statement}
-use Rattle.audit.proofs.run.is_empty.Tie as tie
+use Rattle.format.proofs.Ends.{empty-none, empty-first}
+use Rattle.format.proofs.board.is_empty.Statement.{statement}
+use Rattle.format.proofs.board.is_empty.Tie as tie
 
 returns : tie.Need-returns
 returns c = empty-none (c .before .before .args .board .now) (c .if1 .taken)

@@ -1,0 +1,2 @@
+-- What the plan of a board is.
+pub mod Plan
