@@ -5,7 +5,7 @@ use std::path::Path;
 
 fn main() {
     println!("cargo:rerun-if-env-changed=TIRFOLMA_LIB");
-    println!("cargo:rustc-check-cfg=cfg(has_compare, has_ancestry, has_receipts, has_notes)");
+    println!("cargo:rustc-check-cfg=cfg(has_compare, has_ancestry, has_receipts, has_notes, has_plan)");
     if env::var_os("CARGO_FEATURE_LIBRARY").is_none() {
         return;
     }
@@ -17,7 +17,7 @@ fn main() {
     let name = path.file_stem().and_then(|s| s.to_str()).expect("a plain file name");
     println!("cargo:rustc-link-lib=static={}", name.strip_prefix("lib").unwrap_or(name));
     let archive = fs::read(path).expect("the static library can be read");
-    for entry in ["compare", "ancestry", "receipts", "notes"] {
+    for entry in ["compare", "ancestry", "receipts", "notes", "plan"] {
         let symbol = format!("tirfolma_{entry}\0");
         if archive.windows(symbol.len()).any(|part| part == symbol.as_bytes()) {
             println!("cargo:rustc-cfg=has_{entry}");

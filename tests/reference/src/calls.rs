@@ -17,6 +17,9 @@ use crate::random::Random;
 use crate::receipts::receipts;
 use crate::told::{broken, check_end, check_told, PROPERTIES};
 
+mod plans;
+pub use plans::*;
+
 /// How often an entry gave each answer: by refusal number, or as follows.
 pub type Tally = [usize; 32];
 
@@ -191,6 +194,16 @@ impl Call<'_> {
     /// The words of the answer.
     pub fn answer(&self) -> &[u32] {
         self.buffers[0].0.given()
+    }
+
+    /// The first board.
+    pub fn board(&self) -> Board<'_> {
+        self.boards[0].board
+    }
+
+    /// The index table of the first board.
+    pub fn given_index(&self) -> &[u32] {
+        self.tables(&self.boards[0])[0].0.given()
     }
 
     /// A board's index table and ballot table.

@@ -21,8 +21,10 @@ use crate::stand_in::{ANSWER_NEED_BEFORE, BALLOTS_NEED_BEFORE, INDEX_NEED_BEFORE
 use crate::told::{check_end, check_told, PROPERTIES};
 
 mod notes;
+mod plans;
 mod receipts;
 pub use notes::*;
+pub use plans::*;
 pub use receipts::*;
 
 /// What is known of a board from its making.
@@ -807,19 +809,20 @@ fn answer_length(need: usize, random: &mut Random) -> usize {
 /// A check of one entry. Nothing is tallied where the library has no such entry.
 pub type Check = fn(&Interface, &Case, &mut Random, &mut Tally) -> Result<(), String>;
 
-/// How many entries there are: audit, compare, ancestry, receipts and notes.
-pub const ENTRIES: usize = 5;
+/// How many entries there are: audit, compare, ancestry, receipts, notes and plan. All but the last audit a board.
+pub const ENTRIES: usize = 6;
 
 /// Every entry, with tables of any length.
-pub const ANY_LENGTH: [Check; ENTRIES] = [check_audit, check_compare, check_ancestry, check_receipts, check_notes];
+pub const ANY_LENGTH: [Check; ENTRIES] =
+    [check_audit, check_compare, check_ancestry, check_receipts, check_notes, check_plan];
 
 /// Every entry, with tables of just the words they need, of too few, and of more.
 pub const FULL_LENGTHS: [Check; ENTRIES] =
-    [check_audit_full, check_compare_full, check_ancestry_full, check_receipts_full, check_notes_full];
+    [check_audit_full, check_compare_full, check_ancestry_full, check_receipts_full, check_notes_full, check_plan_full];
 
-/// Every entry, its tables held to the boards alone.
+/// Every entry, its tables held to the boards alone, and a plan to an audit.
 pub const TOLD: [Check; ENTRIES] =
-    [check_audit_told, check_compare_told, check_ancestry_told, check_receipts_told, check_notes_told];
+    [check_audit_told, check_compare_told, check_ancestry_told, check_receipts_told, check_notes_told, check_plan_told];
 
 /// The lengths that an index table and a ballot table need.
 const NEED: [usize; 2] = [INDEX_NEED, BALLOTS_NEED];
@@ -840,9 +843,24 @@ fn table_lengths(random: &mut Random) -> Vec<[usize; 2]> {
 }
 
 fn check_audit(with: &Interface, case: &Case, random: &mut Random, tally: &mut Tally) -> Result<(), String> {
+    call_audit(with, case, audit_lengths(random), random, tally).hold()
+}
+
+/// The same, and a plan beside it.
+pub fn check_audit_and_plan(
+    with: &Interface,
+    case: &Case,
+    random: &mut Random,
+    [audits, plans]: [&mut Tally; 2],
+) -> Result<(), String> {
+    let audit = call_audit(with, case, audit_lengths(random), random, audits);
+    audit.hold()?;
+    check_plan_beside(with, &audit, random, plans)
+}
+
+fn audit_lengths(random: &mut Random) -> [usize; 3] {
     let (index, ballots) = (buffer_length(INDEX_NEED, random), buffer_length(BALLOTS_NEED, random));
-    let answer = answer_length(AUDIT_ANSWER, random);
-    call_audit(with, case, [index, ballots, answer], random, tally).hold()
+    [index, ballots, answer_length(AUDIT_ANSWER, random)]
 }
 
 fn check_audit_full(with: &Interface, case: &Case, random: &mut Random, tally: &mut Tally) -> Result<(), String> {
@@ -899,7 +917,8 @@ pub fn check_answer(with: &Interface, board: Board, known: &Answer) -> Result<()
         call.hold_end()?;
         known.tables.as_ref().map_or(Ok(()), |tables| call.hold_tables(tables))?;
     }
-    Ok(())
+    calls[0].iter().try_for_each(|audit| check_plan_beside(with, audit, random, tally))?;
+    check_plan(with, case, random, tally)
 }
 
 fn check_ancestry(with: &Interface, case: &Case, random: &mut Random, tally: &mut Tally) -> Result<(), String> {

@@ -32,6 +32,8 @@ pub struct Widths {
     pub name: &'static str,
     /// Of a message of whole words.
     pub hash: fn(&[u32]) -> Digest,
+    /// The bytes of a block of that hash.
+    pub block: usize,
     pub address: usize,
     pub signature: usize,
     pub commitment: usize,
@@ -44,6 +46,7 @@ const TABLE: [Widths; 3] = [
     Widths {
         name: "secp256r1",
         hash: |message| widened(&sha256(message)),
+        block: 64,
         address: 8,
         signature: 16,
         commitment: 9,
@@ -53,6 +56,7 @@ const TABLE: [Widths; 3] = [
     Widths {
         name: "secp384r1",
         hash: |message| widened(&sha384(message)),
+        block: 128,
         address: 12,
         signature: 24,
         commitment: 13,
@@ -62,6 +66,7 @@ const TABLE: [Widths; 3] = [
     Widths {
         name: "secp521r1",
         hash: |message| widened(&sha512(message)),
+        block: 128,
         address: 16,
         signature: 33,
         commitment: 17,

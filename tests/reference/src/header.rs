@@ -66,6 +66,11 @@ const NAMES: &[(&str, usize)] = &[
     ("TIRFOLMA_NO_MAIN_ITEM", agreement::NO_MAIN_ITEM as usize),
     ("TIRFOLMA_OUT_OF_ORDER", agreement::OUT_OF_ORDER as usize),
     ("TIRFOLMA_TOO_EARLY", agreement::TOO_EARLY as usize),
+    ("TIRFOLMA_PLAN_WORDS", PLAN_ANSWER),
+    ("TIRFOLMA_PLAN_NUMBER", plan_answer::NUMBER),
+    ("TIRFOLMA_PLAN_ITEMS", plan_answer::ITEMS),
+    ("TIRFOLMA_PLAN_INDEX_WORDS", plan_answer::INDEX_WORDS),
+    ("TIRFOLMA_PLAN_BLOCKS", plan_answer::BLOCKS),
 ];
 
 /// Against a second #include. It alone has no value.
@@ -209,7 +214,7 @@ fn mistakes(text: &str) -> Result<Vec<Mistake>, String> {
 }
 
 /// What is wrong, the text that goes, the text in its place, and what the check must say.
-const MISTAKES: [[&str; 4]; 24] = [
+const MISTAKES: [[&str; 4]; 26] = [
     ["a length is missing", "#define TIRFOLMA_LIST_WORDS 2048\n", "", "the header does not define TIRFOLMA_LIST_WORDS"],
     [
         "a length is a comment",
@@ -326,6 +331,18 @@ const MISTAKES: [[&str; 4]; 24] = [
         "TIRFOLMA_OUT_OF_ORDER = 3",
         "TIRFOLMA_OUT_OF_ORDER",
         "the header has '' for TIRFOLMA_OUT_OF_ORDER, not 3",
+    ],
+    [
+        "a plan has a word too few",
+        "#define TIRFOLMA_PLAN_WORDS 4\n",
+        "#define TIRFOLMA_PLAN_WORDS 3\n",
+        "the header has '3' for TIRFOLMA_PLAN_WORDS, not 4",
+    ],
+    [
+        "a plan has no index words",
+        "    TIRFOLMA_PLAN_INDEX_WORDS = 2,",
+        "",
+        "the header does not define TIRFOLMA_PLAN_INDEX_WORDS",
     ],
     [
         "a product has a name that is defined below it",

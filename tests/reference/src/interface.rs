@@ -7,6 +7,7 @@ use crate::ancestry::Ancestry;
 use crate::audit::Report;
 use crate::compare::{Comparison, Side};
 use crate::notes::{Agreement, Reason};
+use crate::planning::Planned;
 
 /// The words of an end address: those of the board, then zeros.
 pub const END_WORDS: usize = 16;
@@ -15,6 +16,7 @@ pub const COMPARE_ANSWER: usize = 6;
 pub const ANCESTRY_ANSWER: usize = 2;
 /// The audit's answer, and two words more.
 pub const NOTES_ANSWER: usize = 24;
+pub const PLAN_ANSWER: usize = 4;
 
 /// Where the words of the audit's answer stand.
 pub mod audit_answer {
@@ -60,6 +62,14 @@ pub mod notes_answer {
     pub const NOTE: usize = 23;
 }
 
+/// Where the words of the answer to a plan stand.
+pub mod plan_answer {
+    pub const NUMBER: usize = 0;
+    pub const ITEMS: usize = 1;
+    pub const INDEX_WORDS: usize = 2;
+    pub const BLOCKS: usize = 3;
+}
+
 /// Whether notes agree, and why the first that does not disagrees.
 pub mod agreement {
     pub const NOT_HELD: u32 = 0;
@@ -90,6 +100,8 @@ pub type ReceiptsEntry = unsafe extern "C" fn(
 pub type NotesEntry = unsafe extern "C" fn(
     *const u32, usize, *const u32, usize, *const u32, usize, *const u32, usize,
     *mut u32, usize, *mut u32, usize, *mut u32, usize) -> bool;
+/// A board, and the answer.
+pub type PlanEntry = unsafe extern "C" fn(*const u32, usize, *mut u32, usize) -> bool;
 
 #[derive(Clone, Copy)]
 pub struct Interface {
@@ -99,6 +111,7 @@ pub struct Interface {
     pub ancestry: Option<AncestryEntry>,
     pub receipts: Option<ReceiptsEntry>,
     pub notes: Option<NotesEntry>,
+    pub plan: Option<PlanEntry>,
 }
 
 pub fn audit_words(report: &Report) -> [u32; AUDIT_ANSWER] {
@@ -130,6 +143,15 @@ pub fn agreement_words(agreement: Agreement) -> [u32; 2] {
         Agreement::Disagrees(note, Reason::OutOfOrder) => [agreement::OUT_OF_ORDER, note],
         Agreement::Disagrees(note, Reason::TooEarly) => [agreement::TOO_EARLY, note],
     }
+}
+
+pub fn plan_words(planned: &Planned) -> [u32; PLAN_ANSWER] {
+    let mut words = [0; PLAN_ANSWER];
+    words[plan_answer::NUMBER] = planned.number;
+    words[plan_answer::ITEMS] = planned.items;
+    words[plan_answer::INDEX_WORDS] = planned.index_words;
+    words[plan_answer::BLOCKS] = planned.blocks;
+    words
 }
 
 /// The words that a kind does not use are 0.
@@ -200,6 +222,8 @@ pub fn library() -> Option<Interface> {
             roll: *const u32, roll_len: usize, notes: *const u32, notes_len: usize,
             index: *mut u32, index_len: usize, ballots: *mut u32, ballots_len: usize,
             answer: *mut u32, answer_len: usize) -> bool;
+        #[cfg(has_plan)]
+        fn tirfolma_plan(board: *const u32, board_len: usize, answer: *mut u32, answer_len: usize) -> bool;
     }
     #[cfg(has_compare)]
     let compare: Option<CompareEntry> = Some(tirfolma_compare);
@@ -217,7 +241,11 @@ pub fn library() -> Option<Interface> {
     let notes: Option<NotesEntry> = Some(tirfolma_notes);
     #[cfg(not(has_notes))]
     let notes: Option<NotesEntry> = None;
-    Some(Interface { audit: tirfolma_audit, compare, ancestry, receipts, notes })
+    #[cfg(has_plan)]
+    let plan: Option<PlanEntry> = Some(tirfolma_plan);
+    #[cfg(not(has_plan))]
+    let plan: Option<PlanEntry> = None;
+    Some(Interface { audit: tirfolma_audit, compare, ancestry, receipts, notes, plan })
 }
 
 #[cfg(not(feature = "library"))]

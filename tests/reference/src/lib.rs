@@ -3,11 +3,12 @@
 //! a comparison word by word over the C interface.
 //!
 //! The rules: `sha256`, `sha512`, `curves`, `format`, `sets`, `audit`, `compare`, `ancestry`, `receipts`, `notes`,
-//! `program`.
+//! `planning`, `program`.
 //! The boards: `random`, `plan`, `roll`, `sound`, `crowded`, `faults`, `damage`, `collisions`; receipts for them: `presented`;
 //! notes: `noted`.
 //! The checks: `interface`, `header`, `stand_in`, `told`, `closed`, `opened`, `enrolled`, `contests`, `zeros`, `answered`,
-//! `held`, `reached`, `hidden`, `cuts`, `noted_cuts`, `calls`, `checks`, `stored`, `comparisons`, `receipt_files`, `note_files`.
+//! `held`, `planned`, `reached`, `hidden`, `cuts`, `noted_cuts`, `calls`, `checks`, `stored`, `comparisons`, `receipt_files`, `note_files`,
+//! `plan_files`.
 
 pub mod ancestry;
 pub mod answered;
@@ -36,6 +37,9 @@ pub mod noted_cuts;
 pub mod notes;
 pub mod opened;
 pub mod plan;
+pub mod plan_files;
+pub mod planned;
+pub mod planning;
 pub mod presented;
 pub mod program;
 pub mod random;

@@ -8,10 +8,12 @@ use crate::sound::Expected;
 
 mod curves;
 mod notes;
+mod plans;
 mod receipts;
 mod widths;
 pub use curves::{OnCurve, CURVES_WANTED};
 pub use notes::{AskedNotes, NOTES_OF_UNKNOWN_TRAITS, NOTES_WANTED};
+pub use plans::{AskedPlan, PLANS_OF_PLAIN, PLANS_WANTED};
 pub use receipts::{Asked, OF_UNKNOWN_TRAITS, RECEIPTS_WANTED};
 pub use widths::{Sets, ON_SECP256R1, SETS_WANTED};
 

@@ -1,7 +1,7 @@
 //! The reference behind the auditor's C interface, to try the checks with: they must pass it, and must
 //! find each of the mistakes that it can be told to make. Those about the roll are in `rolls`, those about the
 //! widths of contest sets in `widths`, those about curves in `curves`, those about receipts in `receipts`, those about notes
-//! in `notes`.
+//! in `notes`, those about plans in `plans`.
 
 use crate::ancestry::ancestry_with;
 use crate::audit::{audit_with, is_good_roll, is_spoiled, Board, History, Item, Opening, Rules, RULES};
@@ -14,6 +14,7 @@ use std::sync::Mutex;
 
 mod curves;
 pub mod notes;
+mod plans;
 pub mod receipts;
 mod rolls;
 mod widths;
@@ -35,6 +36,7 @@ pub fn stand_in() -> Interface {
         ancestry: Some(stand_in_ancestry),
         receipts: Some(stand_in_receipts),
         notes: Some(stand_in_notes),
+        plan: Some(stand_in_plan),
     }
 }
 
@@ -87,6 +89,12 @@ pub enum About {
     Notes,
     /// Which of several main items with one address is noted.
     FirstNoted,
+    /// The answer to a plan, where an audit of the board tells that it is wrong.
+    Planned,
+    /// The same at the limits of words and of items.
+    PlanLimits,
+    /// The answer to a plan otherwise, and the words that it needs.
+    Plans,
 }
 
 /// Makes the mistakes of a list: each has a name, what it is about, and what is wrong.
@@ -352,6 +360,75 @@ mistakes! {
     AgreementUnnumbered, Notes, "the last word of the answer stays as it was where all agree";
     AnswerOf22, Notes, "22 words of answer to notes are taken";
     LaterMeant, FirstNoted, "the last of several main items is noted";
+    ContentAlone, Planned, "the blocks are those of the contents alone";
+    ContentUncounted, Planned, "the blocks are those of items without content";
+    WholeItem, Planned, "the blocks are those of whole items";
+    WithSignatureHashed, Planned, "signatures are counted as hashed";
+    HeadUnhashed, Planned, "heads are not counted as hashed";
+    BlocksOf19, Planned, "n + 19 words are counted as hashed on every curve";
+    Unpadded, Planned, "the padding takes no room";
+    FullBlocksAlone, Planned, "full blocks alone are counted";
+    NoSecondBlock, Planned, "a block short where a message ends in the last words of a block, 2 or 4";
+    NoRoomForOne, Planned, "a block short where the length alone has room behind a message";
+    AlwaysTwo, Planned, "two blocks are counted for the end of every message";
+    RoomOfTwo, Planned, "a block too many where the padding just has room";
+    LengthOf64, Planned, "the length has 64 bits on every curve";
+    LengthOf128, Planned, "the length has 128 bits on every curve";
+    BlocksOf64Bytes, Planned, "blocks have 64 bytes on every curve";
+    BlocksOf128Bytes, Planned, "blocks have 128 bytes on every curve";
+    Sha384In64, Planned, "blocks have 64 bytes on secp384r1";
+    Sha512In64, Planned, "blocks have 64 bytes on secp521r1";
+    FingerprintHashed, Planned, "the fingerprint of an extraction counts as a block";
+    BlocksOfMains, Planned, "the blocks of hidden items are not counted";
+    GenesisUnhashed, Planned, "the blocks of the first item are not counted";
+    LastUnhashed, Planned, "the blocks of the last item are not counted";
+    RowOfFour, Planned, "an index row has four words";
+    RowsOfMains, Planned, "hidden items have no index rows";
+    WholeIndex, Planned, "the index words are those that a table needs";
+    RowsAsItems, Planned, "the index words are the items";
+    SumsTurned, Planned, "the blocks stand before the index words";
+    ItemsOfMains, Planned, "the items are the main items";
+    ItemsWithClose, Planned, "the closing word is counted as an item";
+    RefusalAtNone, Planned, "a refusal has 0 items";
+    RefusalAtNext, Planned, "a refusal counts the item that is refused";
+    RefusalHasIndex, Planned, "a refusal has the index words of the items passed";
+    RefusalHasBlocks, Planned, "a refusal has the blocks of the items passed";
+    WordsTo262143, PlanLimits, "262,144 words are refused";
+    WordsTo262145, PlanLimits, "262,145 words are taken";
+    WordsUncounted, PlanLimits, "any number of words is taken";
+    WordsOfProgram, PlanLimits, "more than 16,384 words are refused";
+    BlankBeforeOversize, PlanLimits, "3 comes before 1";
+    EmptyTorn, Planned, "no words are 4";
+    CloseFirstPlanned, Planned, "a closing word alone is planned";
+    TraitsRefused, Planned, "unknown traits are refused by 13";
+    CurveByHighestBit, Plans, "traits above 5 are read as a larger curve";
+    ItemsTo2047, PlanLimits, "2,048 items are refused";
+    ItemsTo2049, PlanLimits, "2,049 items are taken";
+    ItemsUncounted, PlanLimits, "any number of items is taken";
+    CloseAtLimitRefused, PlanLimits, "a closing word behind 2,048 items is refused by 1";
+    LimitAfterHead, PlanLimits, "the item limit comes after 5, 6 and 4";
+    KindUnseen, Planned, "a type passes under the other kind";
+    HiddenAmongMains, Planned, "a hidden type passes as a main item";
+    TypeUnseen, Planned, "a type that is not listed passes";
+    StrangersPass, Planned, "every kind and type passes";
+    CountUnseen, Planned, "every count passes";
+    TornByTwo, Planned, "an item that ends one word behind the board passes";
+    TornWithoutMore, Planned, "an item that ends where the board does is torn";
+    TornBySignature, Planned, "an item without signature and address passes";
+    UnclosedPlanned, Planned, "a board without a closing word is planned";
+    TornBeforeStranger, Planned, "4 comes before 5 and 6";
+    TornBeforeMisfit, Planned, "4 comes before 6";
+    MisfitBeforeStranger, Planned, "6 comes before 5";
+    CloseHasMains, Planned, "the closing word is to have the number of main items";
+    CloseUnread, Plans, "the number of a closing word is not looked at";
+    CloseOf16Bits, Plans, "the low 16 bits of a closing word alone are looked at";
+    CloseAtLeast, Plans, "a closing word may have a larger number";
+    WordsBehindPass, Plans, "words behind the closing word pass";
+    ZerosBehindPass, Plans, "zeros behind the closing word pass";
+    PlanOf3, Plans, "three words of answer to a plan are taken";
+    PlanOf5, Plans, "five words of answer to a plan are asked for";
+    PlanOf22, Plans, "an audit's words of answer are written";
+    ShortPlanCleared, Plans, "an answer to a plan that is too short is cleared";
 }
 
 /// The mistake that the stand-in makes.
@@ -777,4 +854,28 @@ unsafe extern "C" fn stand_in_notes(
         _ => {}
     }
     finish(answer, answer_len, &words, [(index, index_len), (ballots, ballots_len)])
+}
+
+unsafe extern "C" fn stand_in_plan(board: *const u32, board_len: usize, answer: *mut u32, answer_len: usize) -> bool {
+    let need = match made() {
+        Some(Mistake::PlanOf3) => PLAN_ANSWER - 1,
+        Some(Mistake::PlanOf5) => PLAN_ANSWER + 1,
+        _ => PLAN_ANSWER,
+    };
+    let written = from_raw_parts_mut(answer, answer_len);
+    if answer_len < need {
+        if made() == Some(Mistake::ShortPlanCleared) {
+            written.fill(0);
+        }
+        return too_short(answer, answer_len);
+    }
+    let mut words = plans::planned(from_raw_parts(board, board_len));
+    match made() {
+        Some(Mistake::AnswerWord) => words[0] ^= 1,
+        Some(Mistake::LastAnswerWord) => words[PLAN_ANSWER - 1] ^= 1,
+        Some(Mistake::PlanOf22) => written.fill(0),
+        _ => {}
+    }
+    written.iter_mut().zip(words).for_each(|(to, word)| *to = word);
+    made() != Some(Mistake::Result)
 }

@@ -1,7 +1,7 @@
 //! Runs the checks: of the reference by itself, and of the auditor's library where it is linked.
 //!
-//!   check [--boards FOLDER]... [--comparisons FOLDER] [--receipts FOLDER] [--notes FOLDER] [--header FILE]
-//!         [--program FILE] [--cases N] [--seed N] [--dump FOLDER]
+//!   check [--boards FOLDER]... [--comparisons FOLDER] [--receipts FOLDER] [--notes FOLDER] [--plans FILE]
+//!         [--header FILE] [--program FILE] [--cases N] [--seed N] [--dump FOLDER]
 //!   check --only GROUP SEED     one case again, as a failure names it
 //!   check --all-entries ..      a library that is not linked, or lacks an entry, is a failure
 //!   check --stand-in ..         the reference in the library's place, to try the harness
@@ -24,11 +24,16 @@ use reference::note_files::check_note_files;
 use reference::noted::Noted;
 use reference::noted_cuts::{self, check_noted_cuts};
 use reference::notes::notes_with;
+use reference::plan_files::check_plan_files;
+use reference::planned::OF_PLANS;
+use reference::planning::check_blocks;
 use reference::presented::Presented;
 use reference::program::{bytes, program, PROGRAM_WORDS};
 use reference::random::Random;
-use reference::reached::{Asked, AskedNotes, BLANK, CURVES_WANTED, NOTES_OF_UNKNOWN_TRAITS, NOTES_WANTED};
-use reference::reached::{OF_UNKNOWN_TRAITS, ON_SECP256R1, RECEIPTS_WANTED, ROLLS_WANTED, SETS_WANTED, WANTED};
+use reference::reached::{Asked, AskedNotes, AskedPlan, BLANK, CURVES_WANTED, NOTES_OF_UNKNOWN_TRAITS, NOTES_WANTED};
+use reference::reached::{
+    OF_UNKNOWN_TRAITS, ON_SECP256R1, PLANS_OF_PLAIN, PLANS_WANTED, RECEIPTS_WANTED, ROLLS_WANTED, SETS_WANTED, WANTED,
+};
 use reference::receipt_files::check_receipt_files;
 use reference::receipts::receipts_with;
 use reference::roll::{full_around, voters_of};
@@ -52,6 +57,7 @@ struct Options {
     comparisons: Option<PathBuf>,
     receipts: Option<PathBuf>,
     notes: Option<PathBuf>,
+    plans: Option<PathBuf>,
     header: Option<PathBuf>,
     program: Option<PathBuf>,
     cases: u64,
@@ -68,6 +74,7 @@ fn options() -> Options {
         comparisons: None,
         receipts: None,
         notes: None,
+        plans: None,
         header: None,
         program: None,
         cases: 36_000,
@@ -86,6 +93,7 @@ fn options() -> Options {
             "--comparisons" => o.comparisons = Some(PathBuf::from(value())),
             "--receipts" => o.receipts = Some(PathBuf::from(value())),
             "--notes" => o.notes = Some(PathBuf::from(value())),
+            "--plans" => o.plans = Some(PathBuf::from(value())),
             "--header" => o.header = Some(PathBuf::from(value())),
             "--program" => o.program = Some(PathBuf::from(value())),
             "--cases" => o.cases = number(value()),
@@ -105,8 +113,8 @@ fn options() -> Options {
 
 fn usage() -> ! {
     eprintln!(
-        "usage: check [--boards FOLDER]... [--comparisons FOLDER] [--receipts FOLDER] [--notes FOLDER] [--header FILE] \
-         [--program FILE] [--cases N] [--seed N] [--dump FOLDER]"
+        "usage: check [--boards FOLDER]... [--comparisons FOLDER] [--receipts FOLDER] [--notes FOLDER] [--plans FILE] \
+         [--header FILE] [--program FILE] [--cases N] [--seed N] [--dump FOLDER]"
     );
     eprintln!("       check --only GROUP SEED");
     exit(2);
@@ -124,6 +132,7 @@ fn main() {
     stored_comparisons(&options);
     stored_receipts(&options);
     stored_notes(&options);
+    stored_plans(&options);
     collision_boards();
     hidden_tracks();
     let bared = refused_mains();
@@ -136,6 +145,8 @@ fn main() {
     stored_comparisons_find(&options);
     stored_receipts_find(&options);
     stored_notes_find(&options);
+    stored_plans_find(&options);
+    known_boards_find();
     bared_boards_find(&bared);
     cut_boards_find(&cut);
     noted_boards_find(&cut);
@@ -147,7 +158,11 @@ fn main() {
         println!("library    NOT LINKED: the reference is checked by itself only");
     }
     let whole = |with: Interface| {
-        with.compare.is_some() && with.ancestry.is_some() && with.receipts.is_some() && with.notes.is_some()
+        with.compare.is_some()
+            && with.ancestry.is_some()
+            && with.receipts.is_some()
+            && with.notes.is_some()
+            && with.plan.is_some()
     };
     if options.all_entries && !with.is_some_and(whole) {
         fail("the library is not linked, or lacks an entry");
@@ -155,6 +170,7 @@ fn main() {
     rolls_of_each_length(with);
     receipts_in_each_number(with);
     notes_in_each_number(with);
+    plans_in_each_way(with);
     cases(&options, with);
     match &options.program {
         Some(path) => programs(&options, path),
@@ -174,6 +190,10 @@ fn vectors() {
             Ok(count) => println!("{name}    {count} known answers"),
             Err(message) => fail(&message),
         }
+    }
+    match check_blocks() {
+        Ok(count) => println!("blocks     {count} known answers on each curve"),
+        Err(message) => fail(&message),
     }
 }
 
@@ -230,6 +250,14 @@ fn stored_notes(options: &Options) {
     let Some(folder) = &options.notes else { return };
     match check_note_files(folder, library()) {
         Ok(count) => println!("stored     {count} sets of notes are answered as expected ({})", folder.display()),
+        Err(message) => fail(&message),
+    }
+}
+
+fn stored_plans(options: &Options) {
+    let Some(file) = &options.plans else { return };
+    match check_plan_files(file, library()) {
+        Ok(count) => println!("stored     {count} plans are answered as expected ({})", file.display()),
         Err(message) => fail(&message),
     }
 }
@@ -381,6 +409,9 @@ struct Tried {
     two_layouts: Vec<Case>,
     /// For receipts and notes.
     asked: Vec<Case>,
+    /// For plans.
+    planned: Vec<Case>,
+    limits: Vec<Case>,
 }
 
 impl Default for Tried {
@@ -403,7 +434,10 @@ impl Default for Tried {
             case
         });
         let at_the_end = cases_of(&makers, "18/", &[0, 1, 2, 3, 4, 5]);
+        let planned = plan_cases(&makers, &sound);
         Tried {
+            planned: [&planned[..], &traits, &at_the_end].concat(),
+            limits: limit_cases(&makers, &sound),
             asked: [&sound[..200], &traits, &at_the_end, &some("20/roll"), &oversize.collect::<Vec<Case>>()].concat(),
             full: vec![case(&makers, Group::Full, 0)],
             openings: of("11/opening"),
@@ -421,6 +455,20 @@ impl Default for Tried {
     }
 }
 
+/// Boards for plans: sound ones, such as the heads refuse, and others.
+fn plan_cases(makers: &Makers, sound: &[Case]) -> Vec<Case> {
+    let by_heads = |&seed: &u64| matches!(makers.fault(seed).number, 1 | 3..=6) || seed % 9 == 0;
+    let ways = (0..makers.faults.len() as u64).filter(by_heads);
+    sound[..60].iter().cloned().chain(ways.map(|seed| case(makers, Group::Faults, seed))).collect()
+}
+
+/// Long boards, and those at the limits.
+fn limit_cases(makers: &Makers, sound: &[Case]) -> Vec<Case> {
+    let at_the_limits =
+        limit_boards().into_iter().map(|words| Case { words, known: Known::Nothing, ..sound[0].clone() });
+    at_the_limits.chain([0, 1, 4, 12, 24, 48].map(|seed| case(makers, Group::Long, seed))).collect()
+}
+
 impl Tried {
     /// The boards and checks that are to find a mistake; without one, all of them.
     fn by(&self, mistake: Option<Mistake>) -> Vec<(&[Case], [Check; ENTRIES])> {
@@ -428,11 +476,16 @@ impl Tried {
             let others = [&self.openings, &self.casts, &self.bad_rolls, &self.unenrolled, &self.ordered];
             let sets = [&self.widths, &self.contests, &self.curves, &self.zeros, &self.two_layouts, &self.asked];
             let mut all: Vec<(&[Case], _)> = vec![(&self.full, FULL_LENGTHS), (&self.sound, TOLD)];
+            let of_plans = [&self.planned, &self.limits].into_iter();
+            all.extend(of_plans.flat_map(|cases| [ANY_LENGTH, TOLD].map(|checks| (&cases[..], alone(5, checks)))));
             all.extend([&self.sound].into_iter().chain(others).chain(sets).map(|cases| (&cases[..], ANY_LENGTH)));
             return all;
         };
         let any_length = |cases| vec![(cases, ANY_LENGTH)];
-        let also_told = |cases| vec![(cases, ANY_LENGTH), (cases, TOLD)];
+        // A plan is told by an audit, which takes time, and by nothing of its tables but the places of items.
+        let mut tables_told = TOLD;
+        tables_told[5] = |_, _, _, _| Ok(());
+        let also_told = |cases| vec![(cases, ANY_LENGTH), (cases, tables_told)];
         match mistake.about() {
             About::Words | About::Refused | About::Answer => any_length(&self.sound[..]),
             About::Lengths => vec![(&self.full, FULL_LENGTHS)],
@@ -452,6 +505,9 @@ impl Tried {
             About::Receipts => vec![(&self.asked, alone(3, ANY_LENGTH))],
             About::Agreement => vec![(&self.sound, alone(4, ANY_LENGTH)), (&self.sound, alone(4, TOLD))],
             About::Notes => vec![(&self.asked, alone(4, ANY_LENGTH))],
+            About::Planned => vec![(&self.planned, alone(5, ANY_LENGTH)), (&self.planned, alone(5, TOLD))],
+            About::PlanLimits => vec![(&self.limits, alone(5, ANY_LENGTH)), (&self.limits, alone(5, TOLD))],
+            About::Plans => vec![(&self.planned, alone(5, ANY_LENGTH))],
             // It takes a collision.
             About::FirstCast | About::FirstNoted => Vec::new(),
             About::OtherRoll => {
@@ -461,7 +517,7 @@ impl Tried {
     }
 }
 
-/// The check of one entry alone: no other can make a mistake about receipts, or about notes.
+/// The check of one entry alone: no other can make a mistake about receipts, about notes, or about plans.
 fn alone(entry: usize, checks: [Check; ENTRIES]) -> [Check; ENTRIES] {
     let mut one: [Check; ENTRIES] = [|_, _, _, _| Ok(()); ENTRIES];
     one[entry] = checks[entry];
@@ -470,12 +526,14 @@ fn alone(entry: usize, checks: [Check; ENTRIES]) -> [Check; ENTRIES] {
 
 /// The checks themselves are tried on a stand-in that makes a mistake. Those about lengths are to be
 /// found with a full board, by the lengths that are always tried with it; those about who closed a
-/// ballot, and openings, sessions and contests that pass, answers to receipts and to notes also without the reference.
+/// ballot, and openings, sessions and contests that pass, answers to receipts and to notes, and plans beside an audit also
+/// without the reference.
 fn mistakes_are_found() {
     let boards = Tried::default();
     let mut broken = [0; PROPERTIES.len()];
     let mut broken_answers = [0; OF_ANSWERS.len()];
     let mut broken_notes = [0; OF_NOTES.len()];
+    let mut broken_plans = [0; OF_PLANS.len()];
     for mistake in [None].into_iter().chain(MISTAKES.iter().copied().map(Some)) {
         make_mistake(mistake);
         let tried = boards.by(mistake);
@@ -496,44 +554,78 @@ fn mistakes_are_found() {
         if mistake.is_some_and(|mistake| mistake.about() == About::Agreement) {
             add_broken(&tried[0].0[..100], broken_by_notes, &mut broken_notes);
         }
+        if mistake.is_some_and(|mistake| BREAK_PLANS.contains(&mistake)) {
+            add_broken(tried[0].0, broken_by_plan, &mut broken_plans);
+        }
     }
     make_mistake(None);
-    if broken.contains(&0) || broken_answers.contains(&0) || broken_notes.contains(&0) {
+    let all_broken = [&broken[..], &broken_answers, &broken_notes, &broken_plans];
+    if all_broken.iter().any(|times| times.contains(&0)) {
         fail(&format!(
-            "the mistakes break the properties of the tables {broken:?} times, those of answers {broken_answers:?} times, \
-             those of notes {broken_notes:?} times, one of them never"
+            "the mistakes break the properties of the tables, of answers, of notes and of plans {all_broken:?} times, one of \
+             them never"
         ));
     }
     print_found();
 }
 
+/// Mistakes that break each property of plans.
+const BREAK_PLANS: [Mistake; 5] = [
+    Mistake::TraitsRefused,
+    Mistake::RefusalHasBlocks,
+    Mistake::RowOfFour,
+    Mistake::ItemsOfMains,
+    Mistake::ContentAlone,
+];
+
 fn print_found() {
     let of = |is: &dyn Fn(Mistake) -> bool| MISTAKES.iter().filter(|&&mistake| is(mistake)).count();
-    let everywhere = of(&|mistake| entries(mistake) == [true; ENTRIES]);
+    let everywhere = of(&|mistake| entries(mistake)[..5] == [true; 5]);
+    let in_plans = of(&|mistake| entries(mistake) == [true; ENTRIES]);
     let somewhere = of(&|mistake| entries(mistake).contains(&true));
-    println!("harness    {everywhere} planted mistakes are found in each entry");
+    println!("harness    {everywhere} planted mistakes are found in each entry that audits, {in_plans} of them in plans, too");
     println!("           {} more in each entry that can make them", somewhere - everywhere);
-    let told = |mistake: Mistake| matches!(mistake.about(), About::End | About::Answers | About::Agreement);
+    let told = |mistake: Mistake| {
+        matches!(mistake.about(), About::End | About::Answers | About::Agreement | About::Planned | About::PlanLimits)
+    };
     let alone = of(&|mistake| found_alone(mistake) || told(mistake));
     println!(
         "           {alone} of them without the reference, by {} properties of the tables, {} of the answers to receipts, \
-         {} of those to notes, or by the end address",
+         {} of those to notes, {} of plans beside an audit, or by the end address",
         PROPERTIES.len(),
         OF_ANSWERS.len(),
-        OF_NOTES.len()
+        OF_NOTES.len(),
+        OF_PLANS.len()
     );
 }
 
-/// The entries in which a mistake is to be found, of audit, compare, ancestry, receipts and notes: all where it can be made.
+/// The entries in which a mistake is to be found, of audit, compare, ancestry, receipts, notes and plan: all where it can be
+/// made.
 fn entries(mistake: Mistake) -> [bool; ENTRIES] {
     match mistake.about() {
-        About::OtherRoll | About::TwoLayouts => [false, true, false, false, false],
-        About::End => [true, false, false, true, true],
-        About::Answer => [true, false, false, true, false],
-        About::Answers | About::Receipts => [false, false, false, true, false],
-        About::Agreement | About::Notes => [false, false, false, false, true],
+        About::OtherRoll | About::TwoLayouts => [false, true, false, false, false, false],
+        About::End => [true, false, false, true, true, false],
+        About::Answer => [true, false, false, true, false, false],
+        About::Answers | About::Receipts => [false, false, false, true, false, false],
+        About::Agreement | About::Notes => [false, false, false, false, true, false],
+        About::Planned | About::PlanLimits | About::Plans => [false, false, false, false, false, true],
         About::FirstCast | About::FirstNoted => [false; ENTRIES],
-        _ => [true; ENTRIES],
+        _ => [true, true, true, true, true, is_planned(mistake)],
+    }
+}
+
+/// Whether a mistake that all audits make is made in plans, too: about the answer, the layout, counts, and widths.
+fn is_planned(mistake: Mistake) -> bool {
+    match mistake {
+        Mistake::AnswerWord | Mistake::LastAnswerWord | Mistake::ShortAnswer | Mistake::Result => true,
+        Mistake::LaterTraits | Mistake::AnyFirstHead | Mistake::NarrowSets | Mistake::WideByHead => true,
+        Mistake::TraitsPassAsWide | Mistake::CryptogramsTo32 | Mistake::CryptogramsTo256 => true,
+        Mistake::WideTrustees | Mistake::GenesisOf17 | Mistake::LongGenesis => true,
+        Mistake::OneCurve | Mistake::WideOnOne | Mistake::CurveBitsTurned | Mistake::UnknownTraitsTell => true,
+        Mistake::Curve3As2 | Mistake::SignatureOf16 | Mistake::SignatureOf32 | Mistake::KeyAsAddress => true,
+        Mistake::ShareAsSignature | Mistake::CommitmentOf9 => true,
+        Mistake::CryptogramOf17 | Mistake::CryptogramOf33 => true,
+        _ => false,
     }
 }
 
@@ -588,6 +680,22 @@ fn stored_notes_find(options: &Options) {
         _ => matches!(mistake.about(), About::Agreement | About::Notes),
     };
     find("the stored notes", wanted, || check_note_files(folder, None).is_ok());
+}
+
+/// The stored plans are to find all mistakes about plans.
+fn stored_plans_find(options: &Options) {
+    let Some(file) = &options.plans else { return };
+    let wanted = |mistake: Mistake| matches!(mistake.about(), About::Planned | About::PlanLimits | About::Plans);
+    find("the stored plans", wanted, || check_plan_files(file, None).is_ok());
+}
+
+/// Boards of which all is known are to find those about which boards are refused, and after how many items.
+fn known_boards_find() {
+    let wanted = |mistake: Mistake| match mistake {
+        Mistake::PlanOf3 | Mistake::PlanOf5 | Mistake::PlanOf22 | Mistake::ShortPlanCleared => false,
+        _ => matches!(mistake.about(), About::Planned | About::PlanLimits | About::Plans),
+    };
+    find("boards cut, closed or changed at each place", wanted, || plans_of_known_boards(&stand_in()).is_ok());
 }
 
 /// Cuts at noted items are to find, the reference left aside, that notes agree though an address is no main item's.
@@ -696,6 +804,11 @@ struct Counts {
     noted: ShownOfNotes,
     /// By the refusal of the board, or 0: the calls with notes that give it, and that give 23.
     noted_of: BTreeMap<u32, [usize; 2]>,
+    plans: Tally,
+    /// The plans that show each thing that is wanted of them, by curve.
+    planned: [[usize; CURVES.len()]; PLANS_WANTED.len()],
+    /// By the refusal of the board, or 0: the plans, and the refusals to plan.
+    planned_of: BTreeMap<u32, [usize; 2]>,
 }
 
 /// How many calls on each curve show each thing that is wanted of notes.
@@ -725,12 +838,12 @@ fn run_case(
 ) -> Result<(), Failure> {
     let case = case(makers, group, seed);
     let random = &mut Random::new(seed ^ 0x5eed);
-    let held = hold_reference(&case, group, counts).and_then(|number| {
+    let held = hold_reference(&case, group, counts).and_then(|said| {
         with.map_or(Ok(()), |with| hold_library(&with, &case, group, random, counts))?;
-        Ok(number)
+        Ok(said)
     });
-    let number = match held {
-        Ok(number) => number,
+    let (number, items) = match held {
+        Ok(said) => said,
         Err(message) => return Err(Failure { case, message, asked: None }),
     };
     if let Err((presented, message)) = hold_receipts(with, &case, number, random, counts) {
@@ -741,6 +854,9 @@ fn run_case(
     if let Err((noted, message)) = hold_notes(with, &case, number, random, counts) {
         return Err(Failure { case, message, asked: Some(("notes.words", noted.notes)) });
     }
+    if let Err((words, message)) = hold_plans(with, &case, [number, items as u32], random, counts) {
+        return Err(Failure { case: Case { words, ..case }, message, asked: None });
+    }
     counts.boards += 1;
     counts.words += case.words.len();
     if group == Group::Faults {
@@ -750,8 +866,8 @@ fn run_case(
     Ok(())
 }
 
-/// Whether the reference says of a case what its making does. Gives the refusal, or 0.
-fn hold_reference(case: &Case, group: Group, counts: &mut Counts) -> Result<u32, String> {
+/// Whether the reference says of a case what its making does. Gives the refusal, or 0, and the items.
+fn hold_reference(case: &Case, group: Group, counts: &mut Counts) -> Result<(u32, usize), String> {
     let (number, items) = check_known(case)?;
     *counts.by_number.entry(number).or_default() += 1;
     if group == Group::Full {
@@ -763,7 +879,7 @@ fn hold_reference(case: &Case, group: Group, counts: &mut Counts) -> Result<u32,
     add_shown(&mut counts.rolls, shown_of_roll(case, number), layout.traits() as usize);
     add_shown(&mut counts.sets, shown_of_sets(case, number, items), layout.curve as usize);
     add_shown(&mut counts.curves, shown_of_curve(case, number, items), layout.curve as usize);
-    Ok(number)
+    Ok((number, items))
 }
 
 /// Counts what a board shows under its layout or curve.
@@ -832,6 +948,35 @@ fn hold_notes(
     Ok(())
 }
 
+/// Whether a case is planned as the reference does, and as its audit tells, and so with a head, its end or its closing word
+/// changed; without the library's entry, the reference's own. Gives the words for which something differs.
+fn hold_plans(
+    with: Option<Interface>,
+    case: &Case,
+    audited: [u32; 2],
+    random: &mut Random,
+    counts: &mut Counts,
+) -> Result<(), (Vec<u32>, String)> {
+    let with = with.filter(|with| with.plan.is_some()).unwrap_or_else(stand_in);
+    let other = changed(&case.words, random);
+    let mut hold = |words: &[u32]| {
+        let said = hold_plan(&with, words, random, &mut counts.plans).map_err(|message| (words.to_vec(), message))?;
+        if let Some(said) = said {
+            let curve = Layout::of(words).curve as usize;
+            let asked = AskedPlan { board: words, said };
+            add_shown(&mut counts.planned, PLANS_WANTED.map(|(_, shows)| shows(&asked)), curve);
+        }
+        Ok(said.and_then(|said| said.said))
+    };
+    let planned = hold(&case.words)?;
+    hold(&other)?;
+    if let Some(planned) = planned {
+        hold_beside(&case.words, audited, planned).map_err(|message| (case.words.clone(), message))?;
+        counts.planned_of.entry(audited[0]).or_default()[usize::from(planned[0] != 0)] += 1;
+    }
+    Ok(())
+}
+
 /// Whether every other entry says of a case what the reference does, and leaves the boards as they are.
 fn hold_library(
     with: &Interface,
@@ -841,11 +986,11 @@ fn hold_library(
     counts: &mut Counts,
 ) -> Result<(), String> {
     let before = sum(case);
-    let tallies =
-        [&mut counts.audit, &mut counts.compare, &mut counts.ancestry, &mut counts.receipts, &mut counts.notes];
-    for (entry, tally) in tallies.into_iter().enumerate() {
-        // Receipts and notes have a check of their own.
-        if entry < 3 {
+    let Counts { audit, compare, ancestry, receipts, notes, plans, .. } = counts;
+    check_audit_and_plan(with, case, random, [audit, plans])?;
+    for (entry, tally) in [audit, compare, ancestry, receipts, notes, plans].into_iter().enumerate() {
+        // Receipts, notes and plans have a check of their own.
+        if matches!(entry, 1 | 2) {
             ANY_LENGTH[entry](with, case, random, tally)?;
         }
         // A roll's refusals with all lengths of tables, too: 2 comes before 20, and 20 clears them.
@@ -904,6 +1049,15 @@ fn notes_in_each_number(with: Option<Interface>) {
     println!("           {words} words of them with a bit turned over");
 }
 
+/// Boards of which all is known, planned: by the reference, or by the library where it has the entry.
+fn plans_in_each_way(with: Option<Interface>) {
+    let with = with.filter(|with| with.plan.is_some()).unwrap_or_else(stand_in);
+    let tried = plans_of_known_boards(&with).unwrap_or_else(|message| fail(&message));
+    let PlansTried { prefixes, closed, heads, counts, limits, tally } = tried;
+    println!("plans      {prefixes} boards cut behind a word, {closed} closed behind an item, {heads} with a head changed: known");
+    println!("           {counts} items of each type and count, {limits} boards at the limits: {}", told(&tally));
+}
+
 /// How many cases of each group make up a run of `cases`.
 fn shares(cases: u64) -> Vec<(Group, u64)> {
     let part = |percent: u64| cases * percent / 100;
@@ -925,7 +1079,7 @@ fn cases(options: &Options, with: Option<Interface>) {
     let total = run_cases(options, with);
     print_reference(options, &total, start.elapsed().as_secs_f64());
     if options.cases >= 5_000 && !all_made(&total) {
-        fail("some refusal, reason, full board, sort of ballot, of roll, of set, of receipt or of note was not made, or too rarely");
+        fail("some refusal, reason, full board, sort of ballot, of roll, of set, of receipt, of note or of plan was not made, or too rarely");
     }
     if let Some(with) = with {
         print_library(&with, &total);
@@ -990,6 +1144,10 @@ fn print_reference(options: &Options, total: &Counts, seconds: f64) {
     let asked = RECEIPTS_WANTED.iter().map(|(what, _)| *what).zip(&total.asked);
     print_times("receipts", "calls", asked);
     print_times("notes", "calls", NOTES_WANTED.iter().map(|(what, _)| *what).zip(&total.noted.0));
+    print_times("plans", "calls", PLANS_WANTED.iter().map(|(what, _)| *what).zip(&total.planned));
+    let of = |(number, [planned, refused]): (&u32, &[usize; 2])| format!("{number}:{planned}+{refused}");
+    let planned_of: Vec<String> = total.planned_of.iter().map(of).collect();
+    println!("           planned, and refused, by the audit's refusal  {}", planned_of.join(" "));
 }
 
 /// How many ways there are to be refused, or to pass, each counted in every layout that has a place for it.
@@ -1038,7 +1196,21 @@ fn all_made(total: &Counts) -> bool {
     let sets = SETS_WANTED.iter().zip(&total.sets).all(|((what, _), times)| on_one(what, times) || everywhere(times));
     let curves = total.curves.iter().all(|times| everywhere(times));
     let full = filled >= 5 && fewer >= 5 && refused >= 10;
-    refusals && reasons && ballots && rolls && sets && curves && asked && full
+    refusals && reasons && ballots && rolls && sets && curves && asked && full && all_planned(total)
+}
+
+/// Whether there were enough plans of each kind: of accepted boards, and of boards that an audit refuses, by each number, some
+/// that are planned, and some that are not.
+fn all_planned(total: &Counts) -> bool {
+    let is_plain = |what: &str, times: &[usize]| PLANS_OF_PLAIN.contains(&what) && times[0] >= 5;
+    let mut shown = PLANS_WANTED.iter().zip(&total.planned);
+    let of = |number: u32| total.planned_of.get(&number).map_or([false; 2], |times| times.map(|times| times > 0));
+    let each = of(0) == [true, false] && [1, 3, 4, 5, 6].into_iter().all(|number| of(number) == [false, true]);
+    let planned = (7..=16).chain([18, 20, 21]).all(|number| of(number)[0]);
+    // Of the others there are few boards with a second fault.
+    let refused = [7, 8, 9, 13, 14, 15, 18, 20].into_iter().all(|number| of(number)[1]);
+    let each = each && planned && refused;
+    each && shown.all(|((what, _), times)| is_plain(what, times) || everywhere(times))
 }
 
 /// Whether there are boards of each layout, or on each curve, and some together.
@@ -1054,6 +1226,7 @@ fn print_library(with: &Interface, total: &Counts) {
         ("ancestry", with.ancestry.is_some(), &total.ancestry),
         ("receipts", with.receipts.is_some(), &total.receipts),
         ("notes", with.notes.is_some(), &total.notes),
+        ("plan", with.plan.is_some(), &total.plans),
     ];
     for (name, linked, tally) in entries {
         if linked {
@@ -1083,11 +1256,11 @@ fn merge(total: &mut Counts, part: Counts) {
     total.boards += part.boards;
     total.words += part.words;
     let by_layout = total.shown.iter_mut().chain(&mut total.rolls).flatten();
-    let asked = total.asked.iter_mut().chain(&mut total.noted.0);
+    let asked = total.asked.iter_mut().chain(&mut total.noted.0).chain(&mut total.planned);
     let by_curve = total.sets.iter_mut().chain(&mut total.curves).chain(asked).flatten();
     let totals = total.full.iter_mut().chain(by_layout).chain(by_curve);
     let part_by_layout = part.shown.into_iter().chain(part.rolls).flatten();
-    let part_asked = part.asked.into_iter().chain(part.noted.0);
+    let part_asked = part.asked.into_iter().chain(part.noted.0).chain(part.planned);
     let part_by_curve = part.sets.into_iter().chain(part.curves).chain(part_asked).flatten();
     for (a, b) in totals.zip(part.full.into_iter().chain(part_by_layout).chain(part_by_curve)) {
         *a += b;
@@ -1106,12 +1279,17 @@ fn merge(total: &mut Counts, part: Counts) {
         let total = total.noted_of.entry(number).or_default();
         total.iter_mut().zip(ways).for_each(|(a, b)| *a += b);
     }
+    for (number, ways) in part.planned_of {
+        let total = total.planned_of.entry(number).or_default();
+        total.iter_mut().zip(ways).for_each(|(a, b)| *a += b);
+    }
     for (to, from) in [
         (&mut total.audit, part.audit),
         (&mut total.compare, part.compare),
         (&mut total.ancestry, part.ancestry),
         (&mut total.receipts, part.receipts),
         (&mut total.notes, part.notes),
+        (&mut total.plans, part.plans),
     ] {
         for (a, b) in to.iter_mut().zip(from) {
             *a += b;
