@@ -86,9 +86,14 @@ fn call(command: &'static Command, mut words: impl Iterator<Item = OsString>) ->
     }
     let (least, most) = command.takes;
     if call.operands.len() < least || call.operands.len() > most {
-        return Err(format!("usage: tirfolma {} [OPTION]... {}", command.name, command.operands));
+        return Err(usage(command));
     }
     Ok(Asked::Run(call))
+}
+
+/// How a command is called.
+pub fn usage(command: &Command) -> String {
+    format!("usage: tirfolma {} [OPTION]... {}", command.name, command.operands)
 }
 
 /// A number in decimal digits alone.

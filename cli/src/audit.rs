@@ -1,14 +1,14 @@
 //! `tirfolma audit`: a line for each folder, its name and what the auditor prints first.
 
-use crate::args::{number, Call};
+use crate::args::{number, usage, Call};
 use crate::explain::{explain, NOTE};
 use crate::files::{Error, Files};
-use crate::folders::folders;
+use crate::folders::{folders, listed};
 use crate::json::{array, Object};
 use crate::library::header::*;
 use crate::library::{Answer, Refusal, Report, Tables};
 use crate::names::{hex_if_no_text, shown};
-use crate::output::{about, complain, finish, print, Progress, Status, TICK};
+use crate::output::{about, finish, tell, Progress, Status, TICK};
 use crate::queue::in_order;
 use std::fmt::Write;
 use std::path::{Path, PathBuf};
@@ -50,7 +50,12 @@ pub fn run(call: &Call) -> Result<Status, String> {
         None => available_parallelism().map_or(1, |jobs| jobs.get()),
     };
     let teller = Mutex::new(Teller { counts: Counts::default(), progress: Progress::new() });
-    let boards = folders(&call.operands);
+    let boards = match call.value("--from") {
+        None if call.operands.is_empty() => return Err(usage(call.command)),
+        None => folders(&call.operands),
+        Some(_) if !call.operands.is_empty() => return Err("--from FILE stands in place of DIR...".to_string()),
+        Some(list) => listed(Path::new(list)).map_err(|e| about(&e))?.into_iter().map(Ok).collect(),
+    };
     let locked = || teller.lock().unwrap_or_else(PoisonError::into_inner);
     let all = in_order(
         boards.len(),
@@ -74,21 +79,11 @@ pub fn run(call: &Call) -> Result<Status, String> {
 }
 
 impl Teller {
-    /// Prints what is said of some folders, each error behind the line that it belongs to, and counts them. Whether that was possible.
+    /// Prints what is said of some folders, and counts them. Whether that was possible.
     fn tell(&mut self, results: Vec<Said>) -> bool {
         self.progress.clear();
-        let mut text = String::new();
-        for said in results {
-            self.counts.add(said.status);
-            text += &said.text;
-            if let Some(error) = said.error {
-                if !print(&std::mem::take(&mut text)) {
-                    return false;
-                }
-                complain(&error);
-            }
-        }
-        text.is_empty() || print(&text)
+        results.iter().for_each(|said| self.counts.add(said.status));
+        tell(results.into_iter().map(|said| (said.text, said.error)))
     }
 
     fn tick(&mut self, boards: usize) {
@@ -162,8 +157,13 @@ pub fn answered(answer: Answer) -> String {
         Answer::Accepted(Report { items, mains, ballots, weight, .. }) => {
             format!("accepted {items} {mains} {ballots} {weight}")
         }
-        Answer::Refused(refusal) => format!("refused {} at {}", refusal.number, refusal.items),
+        Answer::Refused(refusal) => refused_at(refusal),
     }
+}
+
+/// A refusal as every command prints it.
+pub fn refused_at(refusal: Refusal) -> String {
+    format!("refused {} at {}", refusal.number, refusal.items)
 }
 
 /// What the other commands print of a refusal, with what is wrong in words.
@@ -178,7 +178,7 @@ pub fn refused(refusal: Refusal, why: &str, json: bool) -> String {
                 .end()
                 + "\n"
         }
-        false => format!("{}\n    {why}\n{NOTE}", answered(Answer::Refused(refusal))),
+        false => format!("{}\n    {why}\n{NOTE}", refused_at(refusal)),
     }
 }
 

@@ -4,7 +4,7 @@ use crate::args::{number, Call};
 use crate::audit::{answered, refused};
 use crate::board::{Cut, Passed};
 use crate::explain::explain;
-use crate::files::Files;
+use crate::files::{files_of, Files};
 use crate::json::Object;
 use crate::library::{self, Answer, Report, Tables};
 use crate::names::shown;
@@ -29,7 +29,7 @@ pub fn run(call: &Call) -> Result<Status, String> {
         format!("{}: has main items 1 to {mains}, and no main item {main}", shown(folder))
     })?;
     let report = audited(&cut, main)?;
-    out.write(cut.board()).map_err(|e| about(&e))?;
+    out.write(&files_of(cut.board())).map_err(|e| about(&e))?;
     Ok(finish(&said(&report, json), Status::Good))
 }
 

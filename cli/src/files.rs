@@ -1,7 +1,7 @@
 //! The three files of a board's folder, and a file of receipts or notes, read as words: four bytes each, high byte first.
 
 use crate::library::header::TIRFOLMA_BOARD_WORDS;
-use crate::library::{self, Answer, Board, Refusal, Tables};
+use crate::library::{self, Answer, Board, Plan, Refusal, Tables};
 use std::fs::{File, Metadata};
 use std::io::{self, Read};
 use std::os::unix::fs::{MetadataExt, OpenOptionsExt};
@@ -58,12 +58,7 @@ impl Words {
 
     /// Reads a file in place of the last one. No part of it is ever taken for the whole, and nothing for an empty file.
     fn read(&mut self, path: &Path) -> io::Result<()> {
-        // Without this, opening a pipe would wait for a writer.
-        let mut file = File::options().read(true).custom_flags(O_NONBLOCK).open(path)?;
-        let about = file.metadata()?;
-        if !about.is_file() {
-            return Err(io::Error::other(if about.is_dir() { "a folder, not a file" } else { "not a regular file" }));
-        }
+        let (mut file, about) = regular(path)?;
         self.bytes = about.len();
         let expected = self.bytes.min(MOST_BYTES) as usize;
         // Room for any file, taken once: what is not used of it takes no memory.
@@ -73,12 +68,39 @@ impl Words {
         let wanted = expected + usize::from(self.bytes <= MOST_BYTES);
         let taken = fill(&mut file, &mut in_bytes(&mut self.words)[..wanted])?;
         if taken != expected || state(&file.metadata()?) != state(&about) {
-            return Err(io::Error::other("changed while it was read"));
+            return Err(io::Error::other(CHANGED));
         }
         self.words.truncate(expected / 4);
         from_high_byte_first(&mut self.words);
         Ok(())
     }
+}
+
+const CHANGED: &str = "changed while it was read";
+
+/// A regular file, opened for reading, and what is known of it.
+fn regular(path: &Path) -> io::Result<(File, Metadata)> {
+    // Without this, opening a pipe would wait for a writer.
+    let file = File::options().read(true).custom_flags(O_NONBLOCK).open(path)?;
+    let about = file.metadata()?;
+    match about.is_file() {
+        true => Ok((file, about)),
+        false => Err(io::Error::other(if about.is_dir() { "a folder, not a file" } else { "not a regular file" })),
+    }
+}
+
+/// All bytes of a file of text, by the same rules: never a part of it, nor what is no regular file.
+pub fn text_of(path: &Path) -> Result<Vec<u8>, Error> {
+    let read = || {
+        let (mut file, about) = regular(path)?;
+        let mut text = Vec::new();
+        let taken = file.read_to_end(&mut text)?;
+        match taken as u64 == about.len() && state(&file.metadata()?) == state(&about) {
+            true => Ok(text),
+            false => Err(io::Error::other(CHANGED)),
+        }
+    };
+    read().map_err(|e| Error::new(path, plain(&e)))
 }
 
 /// The room of some words, as bytes: a file is read where its words will stand, so that it needs no room beside them.
@@ -148,6 +170,12 @@ impl Files {
         Ok(())
     }
 
+    /// The board alone; the other two stay as they are.
+    pub fn read_board(&mut self, folder: &Path) -> Result<(), Error> {
+        let path = folder.join(NAMES[0]);
+        self.board.read(&path).map_err(|e| Error::new(&path, plain(&e)))
+    }
+
     pub fn of(folder: &Path) -> Result<Files, Error> {
         let mut files = Files::default();
         files.read(folder)?;
@@ -181,6 +209,21 @@ impl Files {
             None => library::audit(self.words(), tables),
         }
     }
+
+    /// The same of a plan, of the board alone.
+    pub fn plan(&self) -> Result<Plan, Refusal> {
+        match size_refusal([&self.board]) {
+            Some(refusal) => Err(refusal),
+            None => library::plan(&self.board.words),
+        }
+    }
+}
+
+/// The files of a board by their names: each word by four bytes, high byte first.
+pub fn files_of(board: Board) -> [(String, Vec<u8>); 3] {
+    let bytes = |words: &[u32]| words.iter().flat_map(|word| word.to_be_bytes()).collect();
+    let [words, verdicts, roll] = [board.words, board.verdicts, board.roll].map(bytes);
+    [(NAMES[0].into(), words), (NAMES[1].into(), verdicts), (NAMES[2].into(), roll)]
 }
 
 /// The auditing program's rule for files: a byte count that is no multiple of 4 is refused as 4 with 0 items.

@@ -1,6 +1,7 @@
 //! Which folders of boards an argument stands for.
 
-use crate::files::{plain, Error, NAMES};
+use crate::files::{plain, text_of, Error, NAMES};
+use crate::names::{shown, shown_back};
 use std::ffi::OsString;
 use std::fs;
 use std::io;
@@ -28,6 +29,28 @@ pub fn folders(arguments: &[OsString]) -> Vec<Result<PathBuf, Error>> {
         }
     }
     found
+}
+
+/// The folders that a file names, a line each, as names are shown. Each stands for itself, whatever is in it. A line that was cut, a file
+/// without lines and what is no such name are errors: no folder of a list must be lost without a word.
+pub fn listed(file: &Path) -> Result<Vec<PathBuf>, Error> {
+    let text = text_of(file)?;
+    let wrong = |why: String| Error::new(file, why);
+    let lines = match text.strip_suffix(b"\n") {
+        Some(lines) => lines.split(|&byte| byte == b'\n'),
+        None if text.is_empty() => return Err(wrong("names no folder".to_string())),
+        None => return Err(wrong("its last line has no end".to_string())),
+    };
+    let name = |(at, line): (usize, &[u8])| {
+        let name = shown_back(line).filter(|name| !name.as_os_str().is_empty());
+        name.ok_or_else(|| wrong(format!("line {} is no folder's name, as audit prints names", at + 1)))
+    };
+    lines.enumerate().map(name).collect()
+}
+
+/// The lines of such a file.
+pub fn list<'a>(folders: impl IntoIterator<Item = &'a Path>) -> String {
+    folders.into_iter().map(|folder| shown(folder) + "\n").collect()
 }
 
 /// Whether a folder has one of a board's files, of whatever kind, or may have one that can't be looked at.

@@ -43,7 +43,8 @@ pub const COMMANDS: &[Command] = &[
         name: "audit",
         run: crate::audit::run,
         operands: "DIR...",
-        takes: (1, usize::MAX),
+        // None with --from.
+        takes: (0, usize::MAX),
         about: "audit boards, a line for each",
         text: &[
             "Prints a line for each folder: its name, a tab, and what the auditor prints first. That is 'accepted' with the numbers of items, main items and counted ballots and their total weight, or 'refused N at K': refusal N, of those below, after K items that pass. A folder that can't be read is 'not audited', and why is said on standard error.",
@@ -59,6 +60,11 @@ pub const COMMANDS: &[Command] = &[
             },
             Opt { flag: "--summary", value: None, text: "Add a last line that counts the boards, those accepted, refused and not audited." },
             Opt { flag: "--jobs", value: Some("N"), text: "Audit N boards at once (default: as many as there are processors)." },
+            Opt {
+                flag: "--from",
+                value: Some("FILE"),
+                text: "In place of DIR..., audit the folders that FILE names, a line each, as names are printed; 'tirfolma plan' writes such files. Each is a board, whatever is in it. A FILE that names none, has a line that is no such name, or whose last line has no end, is an error.",
+            },
             JSON,
             HELP,
         ],
@@ -74,6 +80,39 @@ pub const COMMANDS: &[Command] = &[
             ("explanation", "with --explain, of a refused board: what is wrong, in words; no answer depends on it"),
             ("error", "of a folder that was not audited: why"),
             ("boards, accepted, refused, not_audited", "with --summary, in a last object: how many"),
+        ],
+    },
+    Command {
+        name: "plan",
+        run: crate::plan::run,
+        operands: "DIR...",
+        takes: (1, usize::MAX),
+        about: "tell the blocks that audits will hash, and deal boards to machines",
+        text: &[
+            "Prints, without an audit and without hashing, a line for each folder: its name, a tab, and 'planned' with the number of items, of the words that they fill in the index table, and of the blocks over which an audit hashes their addresses, padded as the standard says. Of an accepted board items and index words are the audit's, and the blocks those that it hashes for addresses. Last comes the sum. The blocks are the work: those of SHA-256 have 64 bytes, those of SHA-384 and SHA-512 128 bytes, and are not the same work; they are counted alike.",
+            "Only board.words is read, and of it only the heads of its items, the traits word and the closing word count: verdicts and roll have no part in a plan, and need not be there. For a board that goes wrong there it prints 'refused N at K', with N 1, 3, 4, 5, 6 or 18 of audit's refusals, after K items whose heads are good, and below it in words what is wrong, as audit --explain does. Such a board is never accepted; one that is planned may still be refused. A folder whose board can't be read is 'not planned', and why is said on standard error. DIR stands for folders as for audit, and names are printed as by it.",
+            "With --machines the boards are dealt to N machines: the largest first, each to the machine that has the fewest blocks so far; of equal boards the first that is given, of equal machines the lowest number. For each machine it prints its number, how many boards it has, its blocks and their part of the sum, and then a line for each of its boards: the machine's number, a tab, and the line as above. No machine has more blocks than an even share and the largest board together. A board that is refused or not planned is dealt, too, evenly and as 0 blocks, so that no board is left out of the day's audit; these are named again below the machines, with what is wrong. Last come the sum and the heaviest machine.",
+        ],
+        options: &[
+            Opt { flag: "--machines", value: Some("N"), text: "Deal the boards to N machines, 1 to 10000; with fewer boards than that some machines have none." },
+            Opt {
+                flag: "--out",
+                value: Some("OUT"),
+                text: "With --machines: also write for each machine K the file machine-K.list into the new folder OUT, with the names of its folders, a line each, for 'tirfolma audit --from' or audit-all. The names are as DIR was given. OUT must not be there yet, or be an empty folder; where a file can't be written, none stays. In a DIR of folders it would be taken for a board.",
+            },
+            JSON,
+            HELP,
+        ],
+        keys: &[
+            ("folder, folder_hex", "as for audit"),
+            ("answer", "\"planned\", \"refused\" or \"not planned\""),
+            ("items, index_words, blocks", "of a planned board: items, words of the index table, blocks; in the last object the sums"),
+            ("number, passed", "of a refused board: the refusal, and how many items have good heads"),
+            ("explanation", "of a refused board: what is wrong, in words; no answer depends on it"),
+            ("error", "of a board that is not planned: what can't be read, and why"),
+            ("machine", "with --machines, of a board: the machine to which it is dealt. Before the boards of each machine is an object with the keys machine, boards and blocks"),
+            ("boards, planned, refused, not_planned", "in the last object: how many boards there are, and of each answer"),
+            ("heaviest, heaviest_blocks", "with --machines, in the last object: the machine that has the most blocks, and how many"),
         ],
     },
     Command {
@@ -191,7 +230,7 @@ pub const COMMANDS: &[Command] = &[
 ];
 
 pub const EXIT: &[(&str, &str)] = &[
-    ("0", "Every board is accepted; for compare: same; for ancestry: listed; for receipts: each has a cast; for notes: all agree; for cut: it is written."),
+    ("0", "Every board is accepted; for compare: same; for ancestry: listed; for receipts: each has a cast; for notes: all agree; for cut: it is written; for plan: every board is planned."),
     ("1", "A board is refused; for compare also: apart, or a collision; for receipts also: one has no cast, or they are refused; for notes also: one disagrees, or they are refused."),
     ("2", "Something could not be read or written, or the call was wrong; then there may also be boards that are refused."),
 ];
@@ -199,6 +238,11 @@ pub const EXIT: &[(&str, &str)] = &[
 pub const EXAMPLES: &[(&str, &str)] = &[
     ("tirfolma audit boards", "Audits all folders in boards."),
     ("tirfolma audit --explain boards/0417", "Says in words what is wrong with a board."),
+    (
+        "tirfolma plan --machines 8 --out today boards",
+        "Deals all folders in boards to eight machines, a file for each in the new folder today.",
+    ),
+    ("tirfolma audit --from today/machine-3.list", "Audits what the third of them was dealt."),
     ("tirfolma compare noon/0417 night/0417", "Holds the board of the night to the one that was kept at noon."),
     ("tirfolma receipts night/0417 receipts.words", "Says which main item of the board is the cast of each receipt."),
     (
@@ -351,7 +395,13 @@ pub fn manual() -> String {
 
 // ---- completion ----
 
-/// For bash: commands, the options of each, folders, and where a command takes a file also files.
+/// The options that take a file.
+fn file_flags() -> Vec<&'static str> {
+    let options = COMMANDS.iter().flat_map(|command| command.options);
+    options.filter(|option| option.value == Some("FILE")).map(|option| option.flag).collect()
+}
+
+/// For bash: commands, the options of each, folders, and where a command or an option takes a file also files.
 pub fn completion() -> String {
     let names: Vec<&str> = COMMANDS.iter().map(|command| command.name).collect();
     let mut out = String::from("# Completion of tirfolma for bash. Made by 'tirfolma --completion'.\n_tirfolma() {\n");
@@ -366,7 +416,11 @@ pub fn completion() -> String {
         let names = if command.operands.contains("FILE") { " names=-f" } else { "" };
         out += &format!("    {}) options='{}'{names} ;;\n", command.name, flags.join(" "));
     }
-    out += "    esac\n    if [[ $word == -* ]]; then\n        mapfile -t COMPREPLY < <(compgen -W \"$options\" -- \"$word\")\n";
+    out += &format!(
+        "    esac\n    case ${{COMP_WORDS[COMP_CWORD - 1]}} in {}) names=-f ;; esac\n",
+        file_flags().join(" | ")
+    );
+    out += "    if [[ $word == -* ]]; then\n        mapfile -t COMPREPLY < <(compgen -W \"$options\" -- \"$word\")\n";
     out += "    else\n        compopt -o filenames\n        mapfile -t COMPREPLY < <(compgen \"$names\" -- \"$word\")\n    fi\n}\n";
     out + "complete -F _tirfolma tirfolma\n"
 }

@@ -1,8 +1,8 @@
 //! `tirfolma`, the command: reads a board's files, has the proved library audit them, and prints what it says.
 //!
 //! `library` has the calls, and `files` the one rule about files; what the other parts do decides nothing about a board.
-//! Reading: `args`, `folders`, `files`, `beside`. Writing: `new_folder`. The commands: `audit` (over `queue`), `compare`, `ancestry`,
-//! `receipts`, `notes`, `cut`, `show`.
+//! Reading: `args`, `folders`, `files`, `beside`. Writing: `new_folder`. The commands: `audit` and `plan` (over `queue`; `deal` is for
+//! `plan`), `compare`, `ancestry`, `receipts`, `notes`, `cut`, `show`.
 //! For people: `explain`, `board`, `format`, `types`, `times`, `names`, `json`, `output`, `help`.
 
 pub mod ancestry;
@@ -12,6 +12,7 @@ pub mod beside;
 pub mod board;
 pub mod compare;
 pub mod cut;
+pub mod deal;
 pub mod explain;
 pub mod files;
 pub mod folders;
@@ -23,6 +24,7 @@ pub mod names;
 pub mod new_folder;
 pub mod notes;
 pub mod output;
+pub mod plan;
 pub mod queue;
 pub mod receipts;
 pub mod show;

@@ -82,6 +82,16 @@ pub enum Comparison {
     LaterRefused(Refusal),
 }
 
+/// What an audit of a board will read and hash, told from the heads of its items.
+#[derive(Clone, Copy, Debug, PartialEq, Eq)]
+pub struct Plan {
+    pub items: u32,
+    /// The words of the index table that their rows fill.
+    pub index_words: u32,
+    /// The blocks over which their addresses are hashed.
+    pub blocks: u32,
+}
+
 /// A note that disagrees with a board.
 #[derive(Clone, Copy, Debug, PartialEq, Eq)]
 pub struct Disagreement {
@@ -231,4 +241,15 @@ pub fn notes(board: Board, notes: &[u32], tables: &mut Tables) -> Result<Option<
         agreement => unreachable!("the library gives no agreement {agreement} with an accepted board"),
     };
     Ok(Some(Disagreement { note: answer[TIRFOLMA_FIRST_NOTE], fault, items }))
+}
+
+/// The plan of a board's audit; neither verdicts nor a roll have a part in it.
+pub fn plan(board: &[u32]) -> Result<Plan, Refusal> {
+    let mut answer = [0; TIRFOLMA_PLAN_WORDS];
+    assert!(tirfolma_plan(board, &mut answer), "{SHORT}");
+    let (number, items) = (answer[TIRFOLMA_PLAN_NUMBER], answer[TIRFOLMA_PLAN_ITEMS]);
+    match number {
+        0 => Ok(Plan { items, index_words: answer[TIRFOLMA_PLAN_INDEX_WORDS], blocks: answer[TIRFOLMA_PLAN_BLOCKS] }),
+        _ => Err(Refusal { number, items }),
+    }
 }

@@ -1,8 +1,8 @@
 //! Names of files as text that is safe to print: on one line, without a tab, and told apart whatever bytes they have.
 
-use std::ffi::OsStr;
-use std::os::unix::ffi::OsStrExt;
-use std::path::Path;
+use std::ffi::{OsStr, OsString};
+use std::os::unix::ffi::{OsStrExt, OsStringExt};
+use std::path::{Path, PathBuf};
 
 /// The name as it is, but for a backslash (`\\`), line feed and tab (`\n`, `\t`), and other bytes and characters that steer a terminal or
 /// are no text, by their bytes (`\x1b`).
@@ -21,6 +21,28 @@ pub fn shown(path: &Path) -> String {
         escape(part.invalid(), &mut text);
     }
     text
+}
+
+/// The name that was shown so; none where a backslash has nothing of these behind it.
+pub fn shown_back(text: &[u8]) -> Option<PathBuf> {
+    let (mut name, mut rest) = (Vec::new(), text);
+    while let Some((&first, behind)) = rest.split_first() {
+        let (byte, taken) = match (first, behind) {
+            (b'\\', [b'\\', ..]) => (b'\\', 2),
+            (b'\\', [b'n', ..]) => (b'\n', 2),
+            (b'\\', [b't', ..]) => (b'\t', 2),
+            (b'\\', [b'x', high, low, ..]) => (hex_digit(*high)? << 4 | hex_digit(*low)?, 4),
+            (b'\\', _) => return None,
+            (byte, _) => (byte, 1),
+        };
+        name.push(byte);
+        rest = &rest[taken..];
+    }
+    Some(OsString::from_vec(name).into())
+}
+
+fn hex_digit(digit: u8) -> Option<u8> {
+    char::from(digit).to_digit(16).map(|value| value as u8)
 }
 
 fn escape(bytes: &[u8], text: &mut String) {

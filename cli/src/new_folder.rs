@@ -1,10 +1,12 @@
-//! A new folder for a board's files: all three are written, or none stays. No file is ever written over.
+//! A new folder for files, as those of a board: all are written, or none stays. No file is ever written over.
 
-use crate::files::{plain, Error, NAMES};
-use crate::library::Board;
+use crate::files::{plain, Error};
 use std::fs::{self, File};
 use std::io::{self, ErrorKind, Write};
 use std::path::{Path, PathBuf};
+
+/// A file's name and its bytes.
+pub type Named = (String, Vec<u8>);
 
 /// A folder that is not there yet, or is empty.
 pub struct NewFolder {
@@ -30,14 +32,14 @@ impl NewFolder {
         Ok(NewFolder { path: path.to_path_buf(), is_there })
     }
 
-    /// Writes the files of a board. A new folder gets its name when all is written.
-    pub fn write(&self, board: Board) -> Result<(), Error> {
+    /// Writes files of different names. A new folder gets its name when all is written.
+    pub fn write(&self, files: &[Named]) -> Result<(), Error> {
         if self.is_there {
-            return self.write_in(&self.path, board);
+            return self.write_in(&self.path, files);
         }
         let begun = begun_beside(&self.path).map_err(|e| Error::new(&self.path, plain(&e)))?;
         let named = self
-            .write_in(&begun, board)
+            .write_in(&begun, files)
             .and_then(|()| fs::rename(&begun, &self.path).map_err(|e| Error::new(&self.path, plain(&e))));
         if named.is_err() {
             // It is ours. There is nothing left to do if this fails, and what is told is why it was not named.
@@ -47,11 +49,10 @@ impl NewFolder {
     }
 
     /// In a folder that has no such files. Those that were written are removed again if one can't be.
-    fn write_in(&self, folder: &Path, board: Board) -> Result<(), Error> {
+    fn write_in(&self, folder: &Path, files: &[Named]) -> Result<(), Error> {
         let mut made = Vec::new();
-        let mut files = NAMES.iter().zip([board.words, board.verdicts, board.roll]);
-        let written = files.try_for_each(|(name, words)| {
-            write_new(folder.join(name), words, &mut made).map_err(|e| Error::new(&self.path.join(name), plain(&e)))
+        let written = files.iter().try_for_each(|(name, bytes)| {
+            write_new(folder.join(name), bytes, &mut made).map_err(|e| Error::new(&self.path.join(name), plain(&e)))
         });
         if written.is_err() {
             made.iter().for_each(|path| drop(fs::remove_file(path)));
@@ -78,12 +79,11 @@ fn begun_beside(path: &Path) -> io::Result<PathBuf> {
     }
 }
 
-/// Writes a file that is not there yet, each word by four bytes, high byte first. Once it is there, its name is among those that were made.
-fn write_new(path: PathBuf, words: &[u32], made: &mut Vec<PathBuf>) -> io::Result<()> {
+/// Writes a file that is not there yet. Once it is there, its name is among those that were made.
+fn write_new(path: PathBuf, bytes: &[u8], made: &mut Vec<PathBuf>) -> io::Result<()> {
     let mut file = File::create_new(&path)?;
     made.push(path);
-    let bytes: Vec<u8> = words.iter().flat_map(|word| word.to_be_bytes()).collect();
-    file.write_all(&bytes)?;
+    file.write_all(bytes)?;
     // What the disk does not take is told here.
     file.sync_all()
 }

@@ -60,6 +60,21 @@ pub fn print(text: &str) -> bool {
     }
 }
 
+/// Writes texts, each error behind the text that it belongs to. Whether that was possible.
+pub fn tell(said: impl IntoIterator<Item = (String, Option<String>)>) -> bool {
+    let mut all = String::new();
+    for (text, error) in said {
+        all += &text;
+        if let Some(error) = error {
+            if !print(&std::mem::take(&mut all)) {
+                return false;
+            }
+            complain(&error);
+        }
+    }
+    all.is_empty() || print(&all)
+}
+
 /// A line on a terminal that says how far it is, once it has taken a second.
 pub struct Progress {
     terminal: bool,

@@ -42,6 +42,33 @@ const WRONG: &[&str] = &[
     "audit DIR --jobs",
     "audit --jobs DIR",
     "audit DIR ''",
+    "audit --from",
+    "audit --from= ",
+    "audit --from ''",
+    "audit --from OUT",
+    "audit --from FILE",
+    "audit --from FILE DIR",
+    "audit --from DIR",
+    "plan",
+    "plan --machines 2",
+    "plan ''",
+    "plan --jobs 1 DIR",
+    "plan --rows DIR",
+    "plan --from FILE",
+    "plan --machines 0 DIR",
+    "plan --machines=0 DIR",
+    "plan --machines 10001 DIR",
+    "plan --machines x DIR",
+    "plan --machines -1 DIR",
+    "plan --machines 1.5 DIR",
+    "plan --machines '' DIR",
+    "plan --machines 99999999999999999999999 DIR",
+    "plan DIR --machines",
+    "plan --machines DIR",
+    "plan --out OUT DIR",
+    "plan --machines 2 --out DIR DIR",
+    "plan --machines 2 --out FILE DIR",
+    "plan --machines 2 --out '' DIR",
     "compare",
     "compare DIR",
     "compare DIR DIR 1 1",
@@ -152,11 +179,12 @@ fn help_of(command: &str) -> String {
 #[test]
 fn help() {
     let flags = |command| match command {
-        "audit" => &["--rows", "--explain", "--summary", "--jobs", "--json", "--help"][..],
+        "audit" => &["--rows", "--explain", "--summary", "--jobs", "--from", "--json", "--help"][..],
+        "plan" => &["--machines", "--out", "--json", "--help"],
         _ => &["--json", "--help"],
     };
     let names: Vec<&str> = COMMANDS.iter().map(|command| command.name).collect();
-    assert_eq!(names, ["audit", "compare", "ancestry", "receipts", "notes", "cut", "show"]);
+    assert_eq!(names, ["audit", "plan", "compare", "ancestry", "receipts", "notes", "cut", "show"]);
     for name in names.iter().copied().chain([""]) {
         let text = help_of(name);
         let too_wide = text.lines().find(|line| line.chars().count() > 80);
@@ -320,13 +348,15 @@ fn completion() {
     assert_eq!(completed(&["tirfolma", "--v"]), ["--version"]);
     assert_eq!(completed(&["tirfolma", "audit", "--ex"]), ["--explain"]);
     assert_eq!(completed(&["tirfolma", "audit", "some folder", "--su"]), ["--summary"]);
+    assert_eq!(completed(&["tirfolma", "plan", "--m"]), ["--machines"]);
+    assert_eq!(completed(&["tirfolma", "plan", "--machines", "2", "--out", "so"]), ["some folder"]);
     assert_eq!(completed(&["tirfolma", "compare", "--"]), ["--json", "--help"]);
     assert_eq!(completed(&["tirfolma", "compare", "--r"]), [] as [&str; 0]);
     assert_eq!(completed(&["tirfolma", "audit", "so"]), ["some folder"]);
     assert_eq!(completed(&["tirfolma", "cut", "so"]), ["some folder"]);
     assert_eq!(completed(&["tirfolma", "cut", "--"]), ["--json", "--help"]);
-    for command in ["receipts", "notes"] {
-        let mut offered = completed(&["tirfolma", command, "other", "so"]);
+    for words in [["receipts", "other"], ["notes", "other"], ["audit", "--from"]] {
+        let mut offered = completed(&["tirfolma", words[0], words[1], "so"]);
         offered.sort();
         assert_eq!(offered, ["some file", "some folder"], "a file is asked for");
     }

@@ -188,6 +188,8 @@ fn an_empty_name_is_a_missing_folder() {
         &["notes", "", NAMES[0]],
         &["cut", "", "1", "out"],
         &["cut", ".", "1", ""],
+        &["plan", ""],
+        &["audit", "--from", ""],
     ] {
         let mut command = std::process::Command::new(PROGRAM);
         command.current_dir(&here).args(words);

@@ -86,7 +86,7 @@ fn compiles(header: &str, c: &str) -> Result<(), String> {
 #[test]
 fn the_compiler_agrees() {
     let declared = built();
-    assert!(declared.constants.len() > 30 && declared.functions.len() == 5);
+    assert!(declared.constants.len() > 30 && declared.functions.len() == 6);
     compiles(&header(), &in_c(&declared)).unwrap_or_else(|why| panic!("{why}"));
 }
 
@@ -133,6 +133,7 @@ fn parameters_are_in_the_order_of_the_calls() {
             format!("{board} receipts receipt_words {tables} answers answers_words answer answer_words"),
         ),
         ("tirfolma_notes", format!("{board} notes note_words {tables} answer answer_words")),
+        ("tirfolma_plan", "board board_words answer answer_words".to_string()),
     ];
     let declared = built();
     let found: Vec<(&str, String)> = declared
@@ -245,6 +246,8 @@ fn mistakes() -> Vec<(&'static str, &'static str, &'static str)> {
             "uint32_t *receipts, size_t receipt_words",
         ),
         ("notes for writing", "const uint32_t *notes, size_t note_words", "uint32_t *notes, size_t note_words"),
+        ("a plan's words", "TIRFOLMA_PLAN_WORDS 4", "TIRFOLMA_PLAN_WORDS 3"),
+        ("a place in a plan", "TIRFOLMA_PLAN_BLOCKS = 3", "TIRFOLMA_PLAN_BLOCKS = 2"),
         ("a note's words", "TIRFOLMA_NOTE_WORDS_384 14", "TIRFOLMA_NOTE_WORDS_384 12"),
         ("a receipt's words", "TIRFOLMA_RECEIPT_WORDS_521 49", "TIRFOLMA_RECEIPT_WORDS_521 48"),
         ("a comment without an end", "/* ---- ancestry */", "/* ---- ancestry"),

@@ -250,3 +250,25 @@ fn the_parser_is_strict() {
     assert_eq!(value.list("a")[1], Json::Text("é🗳\n/".to_string()));
     assert_eq!(value.list("a").len(), 6);
 }
+
+/// Lists of folders have each name as it is printed, and give it back: whatever its bytes, each board is audited, and once.
+#[test]
+fn lists_of_any_names() {
+    let (temp, paths) = boards();
+    let lists = Temp::new("lists");
+    let out = lists.join("out");
+    let ran = tirfolma(words_of(&["plan", "--machines", "3", "--out"], [&out, &temp.path().to_path_buf()]));
+    assert_eq!((ran.status, ran.errors()), (0, ""));
+    let mut audited = Vec::new();
+    for machine in 1..=3 {
+        let list = out.join(format!("machine-{machine}.list"));
+        let text = fs::read_to_string(&list).expect("text, whatever the names are");
+        let ran = tirfolma(words_of(&["audit", "--from"], [&list]));
+        assert_eq!((ran.status, ran.errors()), (0, ""));
+        let answers: String = text.lines().map(|name| format!("{name}\t{SOUND}\n")).collect();
+        assert_eq!(ran.text(), answers, "in the order of the list, under the names that it has");
+        audited.extend(ran.lines().into_iter().map(|line| parted(line).0));
+    }
+    audited.sort_by(|a, b| a.as_os_str().as_bytes().cmp(b.as_os_str().as_bytes()));
+    assert_eq!(audited, paths);
+}

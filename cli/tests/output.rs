@@ -247,6 +247,18 @@ fn json_has_the_documented_keys() {
     assert!(found.iter().all(|object| object.find("rows").is_none() && object.find("explanation").is_none()));
 }
 
+#[test]
+fn a_plan_has_the_documented_keys() {
+    let (temp, _) = mixed();
+    let mut seen: BTreeSet<String> = ["folder_hex".to_string()].into();
+    for options in [&["plan", "--json"][..], &["plan", "--json", "--machines", "3"]] {
+        let ran = tirfolma(words_of(options, [temp.path()]));
+        assert_eq!((ran.status, ran.errors().lines().count()), (2, 1), "{}", ran.errors());
+        seen.extend(objects(ran.text()).iter().flat_map(Json::keys).map(String::from));
+    }
+    check_documented("plan", &seen.iter().map(String::as_str).collect());
+}
+
 /// A reader that goes away: an end without a word, and not as if all were well.
 #[test]
 fn output_that_is_closed_early() {
@@ -255,7 +267,13 @@ fn output_that_is_closed_early() {
     let all = temp.join("all");
     fs::create_dir(&all).expect("made");
     (0..3_000).for_each(|at| symlink(&board, all.join(format!("{at:05}"))).expect("linked"));
-    for options in [&["audit", "--rows"][..], &["audit", "--json", "--rows"]] {
+    for options in [
+        &["audit", "--rows"][..],
+        &["audit", "--json", "--rows"],
+        &["plan"],
+        &["plan", "--json"],
+        &["plan", "--machines", "7"],
+    ] {
         let words = words_of(&[&[PROGRAM], options].concat(), [&all]);
         let ran = run(shell("set -o pipefail; \"$@\" | head -n 1", words));
         assert_eq!((ran.lines().len(), ran.errors()), (1, ""));
@@ -292,6 +310,8 @@ fn output_that_is_full() {
     for words in [
         &["audit", &good][..],
         &["audit", "--json", "--summary", &good],
+        &["plan", &good],
+        &["plan", "--machines", "2", "--json", &good],
         &["compare", &good, &good],
         &["ancestry", &good, "9"],
         &["receipts", &good, &receipts],

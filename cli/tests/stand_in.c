@@ -154,3 +154,9 @@ bool tirfolma_notes(
     fill("STAND_IN_INDEX", index, index_words);
     return fill("STAND_IN_HELD", answer, answer_words);
 }
+
+bool tirfolma_plan(const uint32_t *board, size_t board_words, uint32_t *answer, size_t answer_words) {
+    const struct buffer all[] = {{"board", board, board_words, false}, {"answer", answer, answer_words, true}};
+    note("plan", all, sizeof all / sizeof *all, NULL);
+    return fill("STAND_IN_PLAN", answer, answer_words);
+}

@@ -327,13 +327,39 @@ fn a_cut_that_is_not_what_it_must_be() {
     }
 }
 
+#[test]
+fn a_plan_is_printed_as_it_is_answered() {
+    let temp = two_boards();
+    let answer = [("STAND_IN_PLAN", "0 4294967295 2147483648 4294967294")];
+    let (ran, notes) = ask(&temp, &answer, &["plan", "later"]);
+    let right = "later\tplanned 4294967295 2147483648 4294967294\n\
+                 1 boards: 1 planned, 0 refused; 4294967295 items, 2147483648 index words, 4294967294 blocks\n";
+    assert_eq!((ran.text(), ran.status, ran.errors()), (right, 0, ""));
+    assert_eq!(notes, "plan board:4:104 answer:4\n");
+    // Sums of more than 32 bits.
+    let (ran, _) = ask(&temp, &answer, &["plan", "--machines", "2", "kept", "later", "kept"]);
+    let last = "3 boards: 3 planned, 0 refused; 12884901885 items, 6442450944 index words, 12884901882 blocks\n\
+                heaviest: machine 1, 8589934588 blocks, 66.7 %\n";
+    assert!(ran.text().ends_with(last), "{}", ran.text());
+    let (ran, _) = ask(&temp, &answer, &["plan", "--json", "--machines", "2", "kept", "later", "kept"]);
+    let last = "\"items\":12884901885,\"index_words\":6442450944,\"blocks\":12884901882,\"heaviest\":1,\"heaviest_blocks\":8589934588}\n";
+    assert!(ran.text().replace(' ', "").ends_with(last), "{}", ran.text());
+    for number in [1, 3, 4, 5, 6, 18] {
+        let (ran, _) = ask(&temp, &[("STAND_IN_PLAN", &format!("{number} 7 8 9"))], &["plan", "kept"]);
+        let lines = ran.lines();
+        assert_eq!((lines[0], ran.status), (format!("kept\trefused {number} at 7").as_str(), 1));
+        assert!(lines[1].starts_with("    ") && lines[2].starts_with('(') && lines.len() == 4, "{}", ran.text());
+        assert!(lines[3].ends_with("; 0 items, 0 index words, 0 blocks"), "{}", ran.text());
+    }
+}
+
 /// What the header says never happens is an error, not an answer.
 #[test]
 fn a_library_that_does_not_answer() {
     let temp = two_boards();
     let audit = ("STAND_IN_AUDIT", "0 9 8 0 0 0 1 1 1 1 1 1 1 1");
     fs::write(temp.join("receipts"), []).expect("written");
-    let cases: [(Answers, &[&str]); 8] = [
+    let cases: [(Answers, &[&str]); 9] = [
         (&[], &["audit", "kept"]),
         (&[audit], &["compare", "kept", "later"]),
         (&[audit, ("STAND_IN_COMPARE", "4 0 0 0 0 0")], &["compare", "kept", "later"]),
@@ -342,6 +368,7 @@ fn a_library_that_does_not_answer() {
         (&[audit], &["notes", "kept", "receipts"]),
         (&[("STAND_IN_HELD", &held(0, 0))], &["notes", "kept", "receipts"]),
         (&[("STAND_IN_HELD", &held(5, 1))], &["notes", "kept", "receipts"]),
+        (&[audit], &["plan", "kept"]),
     ];
     for (answers, words) in cases {
         let (ran, _) = ask(&temp, answers, words);
@@ -365,7 +392,12 @@ fn the_library_is_not_asked_in_vain() {
     fs::write(temp.join("later/roll.words"), [0; 5]).expect("written");
     let (ran, _) = ask(&temp, &[sound, same], &["compare", "kept", "later"]);
     assert_eq!((ran.text(), ran.status), ("later refused 4 at 0\n", 1));
-    let others = [("STAND_IN_ANCESTRY", "0 0"), ("STAND_IN_RECEIPTS", "0 0"), ("STAND_IN_HELD", "0 0")];
+    // A plan is of the board alone.
+    let (ran, notes) = ask(&temp, &[("STAND_IN_PLAN", "0 1 5 2")], &["plan", "later"]);
+    assert_eq!((ran.lines()[0], notes.as_str()), ("later\tplanned 1 5 2", "plan board:4:104 answer:4\n"));
+    temp.board("odd-board", &[vec![0; 7], vec![], vec![]]);
+    let others = ["ANCESTRY", "RECEIPTS", "HELD", "PLAN"].map(|name| format!("STAND_IN_{name}"));
+    let others: Vec<(&str, &str)> = others.iter().map(|name| (name.as_str(), "0 0")).collect();
     for words in [
         &["audit", "later"][..],
         &["ancestry", "later", "1"],
@@ -375,6 +407,7 @@ fn the_library_is_not_asked_in_vain() {
         &["notes", "later", "receipts"],
         &["notes", "kept", "odd"],
         &["cut", "later", "1", "out"],
+        &["plan", "odd-board"],
     ] {
         let (ran, notes) = ask(&temp, &[&[sound, same], &others[..]].concat(), words);
         assert!(ran.text().contains("refused 4 at 0\n"), "{words:?}: {}", ran.text());

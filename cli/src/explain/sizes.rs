@@ -104,8 +104,10 @@ pub fn bad_closing(files: &Files, items: u32) -> Option<String> {
             count(items.into(), "item")
         ));
     }
-    let closing = format!("The closing word, {} at {} of {BOARD}, does not fit the files", hex(head.0), place(at));
-    (!wrong.is_empty()).then(|| format!("{closing}: {}. Look at the end of both files", wrong.join("; ")))
+    // Each item that passes an audit has its verdict words: without any, the board alone was read.
+    let (files, look) = if verdicts == 0 { ("the file", "it") } else { ("the files", "both files") };
+    let closing = format!("The closing word, {} at {} of {BOARD}, does not fit {files}", hex(head.0), place(at));
+    (!wrong.is_empty()).then(|| format!("{closing}: {}. Look at the end of {look}", wrong.join("; ")))
 }
 
 fn stand(number: u64, what: &str) -> String {
