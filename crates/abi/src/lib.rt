@@ -1,5 +1,7 @@
 // The auditor for programs in C and Rust. A caller outside Rattle is checked by nothing, so an entry requires nothing: it refuses.
 // include/tirfolma.h has the same for the caller.
+#![tactic(auto)]
+
 ghost use Rattle.abi.specs.Written.{Audited, Compared, Listed, Answered, Held, Exported, Planned};
 
 use answers::Size;

@@ -1,4 +1,6 @@
 // The ancestry of an item of a board that was accepted: its number, its parent's, and so on up to genesis, in a list that the caller lends.
+#![tactic(auto)]
+
 ghost use Rattle.std.specs.Prelude.{◌≡◌, ◌≤◌, length, replicate};
 ghost use Rattle.model.specs.Audit.{accepted};
 ghost use Rattle.model.specs.Refusal.{no_such_item};

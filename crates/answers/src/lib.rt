@@ -1,4 +1,6 @@
 // The answers of the entries as words, for callers in other languages.
+#![tactic(auto)]
+
 ghost use Rattle.std.specs.Prelude.{◌≡◌, ◌+◌, ◌/◌, ◌%◌, ◌^◌, ◌≤◌, length};
 ghost use Rattle.report.specs.Reported.{reported};
 ghost use Rattle.compare.specs.Answer as comparing;

@@ -1,4 +1,6 @@
 // The audit of a board: a report, and the rows of the index table and of the ballot table.
+#![tactic(auto)]
+
 ghost use Rattle.std.specs.Prelude.{◌≡◌};
 ghost use Rattle.model.specs.Report.{report_of, index_after, ballots_after};
 ghost use Rattle.format.specs.Format.{format_of};

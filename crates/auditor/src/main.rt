@@ -1,4 +1,6 @@
 // Audits the board in the current folder: reads board.words, verdicts.words and roll.words, and prints the answer.
+#![tactic(auto)]
+
 use libc::STDOUT_FILENO;
 use text::size::Sizes;
 

@@ -1,5 +1,7 @@
 // Audits the boards of data/ and writes what is answered of each, as the auditing program prints it. data/index.txt says what each board
 // is: one for each refusal and reason, and sound ones. Refusals 1 and 2 come from boards and tables of their own; 17 is not used.
+#![tactic(auto)]
+
 ghost use Rattle.std.specs.Prelude.{◌≡◌, ◌+◌, ◌%◌, ◌≤◌};
 ghost use Rattle.io.specs.Counts.{IsPrefixLen};
 

@@ -1,4 +1,6 @@
 // Chain tables: items in buckets, the latest first. A search passes the items of one bucket, from the last to the one before it.
+#![tactic(auto)]
+
 ghost use Rattle.std.specs.Prelude.{◌≡◌, ◌+◌, ◌<◌, ◌≤◌, length, get_or};
 ghost use Rattle.model.specs.Audit.{item_limit};
 ghost use Rattle.chains.specs.Chain.{buckets, chain_words, linked};

@@ -1,5 +1,7 @@
 // The ancestry of an item: its number, its parent's, its parent's parent's, up to genesis. The board is read through the index table that
 // its audit left.
+#![tactic(auto)]
+
 ghost use Rattle.std.specs.Prelude.{◌≡◌, ◌+◌, ◌≤◌, length};
 ghost use Rattle.std.proofs.lemmas.List.Edits.{sets};
 ghost use Rattle.model.specs.Ancestry.{ancestry};

@@ -1,4 +1,6 @@
 // The closing word: 18, and the report of a board that is accepted.
+#![tactic(auto)]
+
 ghost use Rattle.std.specs.Prelude.{◌≡◌, ◌<◌, length};
 ghost use Rattle.model.specs.History.{end_address};
 ghost use Rattle.model.specs.Audit.{closing_ok};

@@ -1,4 +1,6 @@
 // Comparing two boards that were accepted, at a main number of the later one.
+#![tactic(auto)]
+
 ghost use Rattle.std.specs.Prelude.{◌≡◌};
 ghost use Rattle.model.specs.Audit.{accepted};
 ghost use Rattle.model.specs.Refusal.{no_such_item};

@@ -1,4 +1,6 @@
 // Check 13 for the config: genesis, contest, threshold, authorizer, round. Paper: "Content", "Item types" (ranges).
+#![tactic(auto)]
+
 ghost use Rattle.std.specs.Prelude.{◌≡◌, ◌+◌, ◌≤◌, length};
 ghost use Rattle.model.specs.Lists.{part};
 ghost use Rattle.model.specs.Content.{contests_ok, genesis_ok, contest_ok, threshold_ok, authorizer_ok, round_ok};

@@ -1,4 +1,6 @@
 // Check 13, bad content: a rule for each type that has one, and none for the others. Paper: "Content".
+#![tactic(auto)]
+
 ghost use Rattle.std.specs.Prelude.{◌≡◌};
 ghost use Rattle.model.specs.Content.{content_ok};
 ghost use Rattle.index.specs.Kept.{rule_after};

@@ -1,4 +1,6 @@
 // The digest of words by the hash of a curve: the one place where the hash of a board's items is chosen. Paper: request (ix).
+#![tactic(auto)]
+
 ghost use Rattle.std.specs.Prelude.{◌≡◌, ◌*◌, ◌^◌, ◌<◌, length};
 ghost use Rattle.model.specs.Format.{longest_address};
 ghost use Rattle.model.specs.Report.{filled};

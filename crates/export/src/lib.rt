@@ -1,5 +1,7 @@
 // The export of a board that was accepted: its main items as lines of JSON in a buffer of bytes. One pass over the items tells the length
 // of the text, and where the buffer has room for it another writes it.
+#![tactic(auto)]
+
 ghost use Rattle.std.specs.Prelude.{◌≡◌, ◌+◌, ◌≤◌, ◌<◌, length};
 ghost use Rattle.model.specs.History.{entry};
 ghost use Rattle.model.specs.Audit.{accepted};

@@ -1,4 +1,6 @@
 // Check 13 for extraction: data and confirmation. Paper: "Content", "Counted ballots" (fingerprint).
+#![tactic(auto)]
+
 ghost use Rattle.std.specs.Prelude.{◌≡◌, [], ◌∷◌, ltb};
 ghost use Rattle.model.specs.Words.{all_in};
 ghost use Rattle.model.specs.Content.{fingerprint_ok, trustees_ok};

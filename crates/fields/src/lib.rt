@@ -1,4 +1,6 @@
 // The content words of items, by their number in the content.
+#![tactic(auto)]
+
 ghost use Rattle.std.specs.Prelude.{◌≡◌, ◌+◌, ◌≤◌, length, get_or};
 ghost use Rattle.model.specs.Lists.{part};
 ghost use Rattle.model.specs.Words.{pair};

@@ -1,5 +1,7 @@
 // Files read whole: the first bytes are kept, and all are counted. No contract can say what a call of the system read; the counts are
 // bounded.
+#![tactic(auto)]
+
 ghost use Rattle.std.specs.Prelude.{◌≤◌, ◌^◌, length};
 
 // Reads after which a file counts as ended: a loop that is proved has to end, and the count of bytes has to fit. No file is as long.

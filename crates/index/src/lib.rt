@@ -1,5 +1,7 @@
 // The index table: a row of five words for each item that was passed. It is read by item number, grows by a row, and a cast or spoil is
 // written into the row of its ballot.
+#![tactic(auto)]
+
 ghost use Rattle.std.specs.Prelude.{◌≡◌, ◌+◌, ◌-◌, ◌≤◌, ◌<◌, length, T};
 ghost use Rattle.model.specs.Audit.{item_limit, index_row, index_need};
 ghost use Rattle.model.specs.History.{entry, main_number, cast_or_spoil, closer};

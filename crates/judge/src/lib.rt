@@ -1,4 +1,6 @@
 // One item, judged: the checks in their order, "5, 6, 4, then 7 to 16", 21 "right after 13". The first that applies is the answer.
+#![tactic(auto)]
+
 ghost use Rattle.std.specs.Prelude.{◌≡◌, ◌≤◌, ◌<◌, length};
 ghost use Rattle.model.specs.Roll.{GoodRoll};
 ghost use Rattle.model.specs.Audit.{item_limit};

@@ -1,4 +1,6 @@
 // Checks 14 to 16: the verdict on an item's signature, and the key under which it was given. Paper: "Words on the shelf", "Item types".
+#![tactic(auto)]
+
 ghost use Rattle.std.specs.Prelude.{◌≡◌, ◌+◌, ◌≤◌, length, T};
 ghost use Rattle.model.specs.Lists.{part};
 ghost use Rattle.model.specs.Words.{same_words};

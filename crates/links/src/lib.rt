@@ -1,4 +1,6 @@
 // Checks 7 to 10: an item's address, its previous item, its parent and its time. Each is equal to its definition in the model.
+#![tactic(auto)]
+
 ghost use Rattle.std.specs.Prelude.{◌≡◌, ◌≤◌, length, eqb};
 ghost use Rattle.model.specs.Lists.{if◌then◌else◌};
 ghost use Rattle.model.specs.Words.{main_kind};

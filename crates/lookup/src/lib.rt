@@ -1,6 +1,8 @@
 // Searches among the items that were passed: the parent and the session of an item, the latest session of a voter, the children of an
 // item, a main item by its main number. Each reads the board through the index table; the searches for a parent and for a session pass
 // the items of one bucket alone, by their chain tables.
+#![tactic(auto)]
+
 ghost use Rattle.std.specs.Prelude.{◌≡◌, ◌+◌, ◌-◌, ◌≤◌, length, eqb};
 ghost use Rattle.model.specs.Lists.{if◌then◌else◌, any};
 ghost use Rattle.model.specs.Words.{main_kind};

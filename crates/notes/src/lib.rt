@@ -1,5 +1,7 @@
 // A watcher's notes, held against a board that was accepted: the first that disagrees, and what is wrong with it. The main item of an
 // address is sought in the audit's buckets, which are made anew.
+#![tactic(auto)]
+
 ghost use Rattle.std.specs.Prelude.{◌≡◌, true, ◌+◌, ◌≤◌, ◌<◌, length, replicate};
 ghost use Rattle.model.specs.History.{entry, first};
 ghost use Rattle.watch.specs.Notes.{note_size, note_count, note_at, noted_item, item_before, disagreement, held, is_bad_notes};

@@ -1,5 +1,7 @@
 // Comparing the main items of a kept board with those of a later one, from a main number of the later one backwards. Both boards are read
 // through the index tables that their audits left.
+#![tactic(auto)]
+
 ghost use Rattle.std.specs.Prelude.{◌≡◌, ◌+◌, ◌≤◌, length};
 ghost use Rattle.model.specs.Lists.{part, count};
 ghost use Rattle.model.specs.Words.{same_words};

@@ -1,4 +1,6 @@
 // Checks 11 and 12: what may stand when, and what may stand only once. Each is equal to its definition in the model.
+#![tactic(auto)]
+
 ghost use Rattle.std.specs.Prelude.{◌≡◌};
 ghost use Rattle.model.specs.Phase.{phase_ok};
 ghost use Rattle.model.specs.Only.{only_ok};

@@ -1,5 +1,7 @@
 // The plan of a board: how many items it has, how many words their index rows fill, and over how many blocks their addresses are hashed.
 // It is read off the heads: an item's other words are not read, and nothing is hashed. Paper: request (x).
+#![tactic(auto)]
+
 ghost use Rattle.std.specs.Prelude.{◌≡◌, false, List, ℕ, ◌<◌, ◌≤◌, length, get_or};
 ghost use Rattle.model.specs.Audit.{refused, item_limit, word_limit, is_empty};
 ghost use Rattle.format.specs.Format.{widths_of};

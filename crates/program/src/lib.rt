@@ -1,4 +1,6 @@
 // The auditing program but for reading and writing: from the bytes of the three files to the bytes that it prints.
+#![tactic(auto)]
+
 ghost use Rattle.std.specs.Prelude.{◌≡◌, List, ℕ, ◌+◌, ◌*◌, ◌≤◌, min, length};
 ghost use Rattle.model.specs.Audit.{ballot_row};
 ghost use Rattle.model.specs.Program.{from_bytes, printed};

@@ -1,5 +1,7 @@
 // Receipts, answered from a board that was accepted: for each the main number of its cast. One pass over the board answers all: each cast
 // is held against the receipts in the bucket of its address.
+#![tactic(auto)]
+
 ghost use Rattle.std.specs.Prelude.{◌≡◌, ◌+◌, ◌≤◌, ◌<◌, length, replicate};
 ghost use Rattle.model.specs.Codes.{cast_type};
 ghost use Rattle.model.specs.Audit.{accepted};

@@ -1,4 +1,6 @@
 // The refusals, by what is wrong. Each comment gives the paper's number and word.
+#![tactic(auto)]
+
 ghost use Rattle.std.specs.Prelude.{◌≡◌};
 ghost use Rattle.refusal.specs.Number.{number_of};
 

@@ -1,4 +1,6 @@
 // What an audit answers.
+#![tactic(auto)]
+
 ghost use Rattle.std.specs.Prelude.{◌≡◌, List, ℕ, ◌≤◌};
 ghost use Rattle.model.specs.Audit.{item_limit, refused};
 ghost use Rattle.model.specs.Report.{report_of};

@@ -1,4 +1,6 @@
 // Checks 20 and 21: whether the roll is bad, and whether a session names a voter of the roll with that voter's weight. Paper: request (i).
+#![tactic(auto)]
+
 ghost use Rattle.std.specs.Prelude.{◌≡◌};
 ghost use Rattle.model.specs.Roll.{rising, voter_numbers, is_bad_roll, GoodRoll, on_roll, on_roll_ok};
 ghost use Rattle.index.specs.Kept.{item_after};

@@ -1,5 +1,7 @@
 // The rounds in force: whether one is open at a time, and the contests that the open ones enable.
 // A later round with the same number replaces the earlier; the state has the round in force under each number.
+#![tactic(auto)]
+
 ghost use Rattle.std.specs.Prelude.{◌≡◌, ℕ, ◌<◌, get_or};
 ghost use Rattle.std.specs.Int.Bits.{bit_or};
 ghost use Rattle.model.specs.Lists.{any};

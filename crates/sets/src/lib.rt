@@ -1,5 +1,7 @@
 // Sets of contests: runs of words, of which number j is bit j mod 32 of word j div 32. One function serves sets of one word and of eight.
 // Paper: "Item types", request (v).
+#![tactic(auto)]
+
 ghost use Rattle.std.specs.Prelude.{◌≡◌, ℕ, ◌+◌, ◌*◌, ◌/◌, ◌%◌, ◌^◌, ◌≤◌, ◌<◌, length, get_or, eqb};
 ghost use Rattle.std.specs.Int.Bits.{bit_or};
 ghost use Rattle.model.specs.Lists.{if◌then◌else◌, part};

@@ -1,4 +1,6 @@
 // SHA-256 for programs in C and Rust. A caller outside Rattle is checked by nothing, so the entry requires nothing: it refuses.
+#![tactic(auto)]
+
 ghost use Rattle.sha256_abi.specs.Answer.{Answer};
 
 // Writes the digest of the message and returns true; where the message is longer than the hash takes, returns false and writes nothing.

@@ -1,4 +1,6 @@
 // The whole blocks of a message, hashed where they stand (FIPS 180-4, 6.2.2).
+#![tactic(auto)]
+
 ghost use Rattle.std.specs.Prelude.{◌≡◌};
 ghost use Rattle.sha256_blocks.specs.Blocks.{hash_over};
 

@@ -1,4 +1,6 @@
 // SHA-384 and SHA-512 of FIPS 180-4 for messages of whole 32-bit words, at once or in pieces.
+#![tactic(auto)]
+
 ghost use Rattle.std.specs.Prelude.{◌≡◌, ◌+◌, ◌/◌, ◌%◌, ◌^◌, ◌<◌, ◌≤◌, length, take, [], ◌∷◌, ◌++◌};
 ghost use Rattle.sha512_block.specs.Fips.{padding, hash_words, to_halves, sha384_words, sha512_words};
 ghost use Rattle.sha512_blocks.specs.Blocks.{hash_over};

@@ -1,5 +1,7 @@
 // SHA-384 and SHA-512 for programs in C and Rust. A caller outside Rattle is checked by nothing, so the entries require nothing; they take
 // any message, since none in memory has 2 ^ 128 bits.
+#![tactic(auto)]
+
 ghost use Rattle.std.specs.Prelude.{◌≡◌};
 ghost use Rattle.sha512_block.specs.Fips.{sha384_words, sha512_words};
 

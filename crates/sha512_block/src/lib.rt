@@ -1,4 +1,6 @@
 // One block of FIPS 180-4, 6.4.2: the schedule, the rounds and the next hash value.
+#![tactic(auto)]
+
 mod functions;
 
 ghost use Rattle.std.specs.Prelude.{◌≡◌, ℕ, ◌+◌, ◌<◌, ◌≤◌, List, length, slice_index};

@@ -1,4 +1,6 @@
 // The whole blocks of a message, hashed where they stand (FIPS 180-4, 6.4.2).
+#![tactic(auto)]
+
 ghost use Rattle.std.specs.Prelude.{◌≡◌};
 ghost use Rattle.sha512_blocks.specs.Blocks.{hash_over};
 

@@ -1,4 +1,6 @@
 // The audit's running state: what the rules ask of the items so far, kept so that no rule searches for it.
+#![tactic(auto)]
+
 ghost use Rattle.std.specs.Prelude.{◌≡◌, List, ℕ, ◌+◌, ◌<◌, length, get_or};
 ghost use Rattle.model.specs.Words.{between};
 ghost use Rattle.model.specs.Counted.{counted};

@@ -1,4 +1,6 @@
 // One step of the audit: the item after those that passed is judged, and where it passes, the state and all tables go on behind it.
+#![tactic(auto)]
+
 ghost use Rattle.std.specs.Prelude.{◌≡◌, ◌+◌, ◌<◌, length};
 ghost use Rattle.model.specs.Roll.{GoodRoll};
 ghost use Rattle.model.specs.Audit.{item_limit};

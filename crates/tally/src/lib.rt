@@ -1,4 +1,6 @@
 // The counted ballots: their rows in the ballot table, kept as the items pass, and what is made of them.
+#![tactic(auto)]
+
 ghost use Rattle.std.specs.Prelude.{◌≡◌, List, ◌+◌, ◌*◌, ◌≤◌, length, T};
 ghost use Rattle.model.specs.History.{entry, main, main_number};
 ghost use Rattle.model.specs.Counted.{Vote, counted, contents, total_weight};

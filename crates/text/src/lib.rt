@@ -1,4 +1,6 @@
 // What the program prints, as bytes in a buffer that the caller lends, and the sizes of files that it refuses.
+#![tactic(auto)]
+
 ghost use Rattle.std.specs.Prelude.{◌+◌, ◌*◌, ◌≤◌, length};
 ghost use Rattle.model.specs.Audit.{ballot_row};
 ghost use Rattle.text.specs.Answer.{text_from};

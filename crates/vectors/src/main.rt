@@ -2,6 +2,8 @@
 // one length cut at each place, of a million times "a", and of the messages of standard input. The file stdout has the digests from
 // elsewhere: those of the CAVP's messages are its own (MD), the others are of Python's hashlib. Only messages of whole words of 32 bits:
 // "abc" and other messages of bytes are theorems about the definitions, in crate `standard`.
+#![tactic(auto)]
+
 mod hash256;
 mod hash512;
 mod input;

@@ -1,4 +1,6 @@
 // Check 13 for voting: session, commitments, ballot. Paper: "Content", "Item types" (sets).
+#![tactic(auto)]
+
 ghost use Rattle.std.specs.Prelude.{◌≡◌, ◌+◌, ◌*◌, ◌≤◌, length};
 ghost use Rattle.model.specs.Lists.{part};
 ghost use Rattle.model.specs.Words.{set_bits, member, all_in};
