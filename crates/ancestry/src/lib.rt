@@ -10,7 +10,7 @@ ghost use Rattle.ancestry.specs.Answer.{answer_of};
 
 use refusal::Refusal;
 
-#[derive(Drop)]
+#[derive(Clone, Copy)]
 pub enum Listing {
     // How many numbers were written.
     Listed(u32),

@@ -19,7 +19,6 @@ use plan::Plan;
 use report::{Answer, Report};
 
 // Words of an answer.
-#[derive(Drop)]
 pub struct Size {}
 
 impl Size {

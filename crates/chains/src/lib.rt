@@ -5,7 +5,6 @@ ghost use Rattle.std.specs.Prelude.{◌≡◌, ◌+◌, ◌<◌, ◌≤◌, leng
 ghost use Rattle.model.specs.Audit.{item_limit};
 ghost use Rattle.chains.specs.Chain.{buckets, chain_words, linked};
 
-#[derive(Drop)]
 pub struct Chain {}
 
 impl Chain {

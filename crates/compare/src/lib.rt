@@ -13,13 +13,13 @@ use pairs::Agreement;
 use refusal::Refusal;
 
 // Which board a refusal names.
-#[derive(Drop)]
+#[derive(Clone, Copy)]
 pub enum Board {
     Kept,
     Later,
 }
 
-#[derive(Drop)]
+#[derive(Clone, Copy)]
 pub enum Comparison {
     // A refusal of a board, and the items passed so far. A main number that the later board does not have is a refusal of that board.
     Refused {

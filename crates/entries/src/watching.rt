@@ -12,7 +12,7 @@ use refusal::Refusal;
 use report::{Answer, Report};
 
 // The audit's report, and what the notes say.
-#[derive(Drop)]
+#[derive(Clone, Copy)]
 pub struct Held {
     pub report: Report,
     pub agreement: Agreement,

@@ -11,7 +11,7 @@ use refusal::Refusal;
 use report::{Answer, Report};
 
 // The audit's report, or the refusal of a text buffer that is short; and how many bytes were written.
-#[derive(Drop)]
+#[derive(Clone, Copy)]
 pub struct Exported {
     pub report: Report,
     pub bytes: u32,

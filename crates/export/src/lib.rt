@@ -17,7 +17,7 @@ pub mod line;
 pub mod size;
 
 // Whether the text fits into the buffer, and, if it does, how many bytes it has; else 0.
-#[derive(Drop)]
+#[derive(Clone, Copy)]
 pub struct Written {
     pub fits: bool,
     pub bytes: u32,

@@ -14,7 +14,6 @@ use format::size::Size;
 pub mod range;
 
 // Where in a content a word stands that has a meaning.
-#[derive(Drop)]
 pub struct Content {}
 
 impl Content {

@@ -1,5 +1,4 @@
 // The ranges of content words. Paper: "Item types", "Content".
-#[derive(Drop)]
 pub struct Range {}
 
 impl Range {

@@ -3,7 +3,7 @@ ghost use Rattle.std.specs.Prelude.{◌≡◌};
 ghost use Rattle.model.specs.Traits.{set_words, traits_known, traits_of};
 ghost use Rattle.format.specs.Format.{widths_on, widths_of};
 
-#[derive(Drop)]
+#[derive(Clone, Copy)]
 pub struct Format {
     // One of the curves below.
     pub curve: u32,

@@ -6,7 +6,7 @@ ghost use Rattle.format.specs.Layout.{item_of};
 use crate::format::Format;
 use crate::head::Head;
 
-#[derive(Drop)]
+#[derive(Clone, Copy)]
 pub struct Item {
     pub place: usize,
     pub head: Head,

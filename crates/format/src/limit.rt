@@ -3,7 +3,7 @@
 ghost use Rattle.std.specs.Prelude.{◌≡◌};
 ghost use Rattle.format.specs.Limit.{limits};
 
-#[derive(Drop)]
+#[derive(Clone, Copy)]
 pub struct Limit {
     pub words: usize,
     pub items: usize,

@@ -5,7 +5,7 @@ ghost use Rattle.format.specs.Phase.{phase_of};
 use crate::head;
 use crate::head::Head;
 
-#[derive(Drop)]
+#[derive(Clone, Copy)]
 pub struct Phase {
     pub number: u32,
 }

@@ -1,7 +1,6 @@
 // Sizes in words of what an item's content is made of, and of whole contents. Paper: "Item types".
 use crate::item::Item;
 
-#[derive(Drop)]
 pub struct Size {}
 
 impl Size {

@@ -11,7 +11,7 @@ use crate::head::Head;
 use crate::size::Size;
 
 // Who writes items of a type: E administrator, D ballot box, A authorizer, V voter, X verifier.
-#[derive(Drop)]
+#[derive(Clone, Copy)]
 pub enum Writer {
     Administrator,
     BallotBox,
@@ -21,7 +21,7 @@ pub enum Writer {
 }
 
 // What the parent must be: zeros, the latest config item, or an item of a type.
-#[derive(Drop)]
+#[derive(Clone, Copy)]
 pub enum ParentRule {
     Zeros,
     LatestConfig,
@@ -29,20 +29,20 @@ pub enum ParentRule {
 }
 
 // The counts of content words: from one number to another, or the words of a set and k times a size, k from 1 to what the set can hold.
-#[derive(Drop)]
+#[derive(Clone, Copy)]
 pub enum Counts {
     FromTo(usize, usize),
     SetAndEach(usize, usize),
 }
 
-#[derive(Drop)]
+#[derive(Clone, Copy)]
 pub struct Row {
     pub writer: Writer,
     pub parent: ParentRule,
     pub counts: Counts,
 }
 
-#[derive(Drop)]
+#[derive(Clone, Copy)]
 pub enum Listing {
     Listed(Row),
     Unlisted,

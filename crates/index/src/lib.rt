@@ -17,7 +17,7 @@ use format::limit::Limit;
 
 // An item that was passed, or one that is judged: where its parts stand, the item number of its parent (its own for genesis, 0 where it is
 // not found), and that of its session (its own for a session, 0 where it has none).
-#[derive(Drop)]
+#[derive(Clone, Copy)]
 pub struct Known {
     pub item: Item,
     pub parent: usize,
@@ -26,7 +26,6 @@ pub struct Known {
 
 // The columns of a row, which has Limit::INDEX_ROW words: the place of the item's head, its parent, its session, the main items before it,
 // and the cast or spoil under it.
-#[derive(Drop)]
 struct Column {}
 
 impl Column {

@@ -22,7 +22,7 @@ use state::State;
 pub mod checks;
 
 // What is made of an item: it passes, and this is known of it; or the first refusal that applies.
-#[derive(Drop)]
+#[derive(Clone, Copy)]
 pub enum Judged {
     Passes(Known),
     Fails(Refusal),

@@ -20,7 +20,6 @@ use index::Known;
 use state::State;
 
 // A verdict: a word that says whether the signature is good, and the fingerprint of the key under which it was checked.
-#[derive(Drop)]
 pub struct Verdict {}
 
 impl Verdict {
@@ -31,7 +30,6 @@ impl Verdict {
 }
 
 // Where a key fingerprint (the paper's key mark) stands in the content that holds it.
-#[derive(Drop)]
 pub struct Key {}
 
 impl Key {

@@ -1,7 +1,7 @@
 -- Decimal digits: they have the number's value, no zero in front, are the same for every bound on their number that is large enough, and how many
 -- they are at most.
 -- Paper: "Numbers are decimal". Assumes nothing.
-use Prim.Native.Nat.{ℕ, zero, suc, ◌/◌, ◌%◌, ◌^◌, ◌≤◌, ◌<◌}
+use Prim.Native.Nat.{ℕ, zero, suc, ◌+◌, ◌-◌, ◌*◌, ◌/◌, ◌%◌, ◌^◌, ◌≤◌, ◌<◌}
 use native.Mathlib.Omega.{arith}
 use mathlib.Core.Path.{◌≡◌, refl, sym, ap, ◌∙◌}
 use mathlib.Core.Logic.{◌≢◌}
@@ -20,7 +20,7 @@ enough (suc n) = omega (arith, enough n)
 value-append : (n : ℕ) (ds es : List ℕ) → value_from n (ds ++ es) ≡ value_from (value_from n ds) es
 unfolding value_from
 value-append n [] es = refl
-value-append n (d ∷ ds) es = value-append _ ds es
+value-append n (d ∷ ds) es = value-append (n * 10 + (d - digit 0)) ds es
 
 one-digit : (n : ℕ) → value_from 0 (digit n ∷ []) ≡ n
 unfolding value_from

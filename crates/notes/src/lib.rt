@@ -18,7 +18,6 @@ use format::head::Head;
 use format::item::Item;
 use lookup::bucket;
 
-#[derive(Drop)]
 pub struct Note {}
 
 impl Note {
@@ -27,7 +26,7 @@ impl Note {
 }
 
 // What is wrong with a note.
-#[derive(Drop)]
+#[derive(Clone, Copy)]
 pub enum Disagreement {
     // Its address is no main item's.
     NoMainItem,
@@ -38,14 +37,14 @@ pub enum Disagreement {
 }
 
 // What is found of a note.
-#[derive(Drop)]
+#[derive(Clone, Copy)]
 enum Finding {
     Agrees,
     Wrong(Disagreement),
 }
 
 // What holding notes against a board says.
-#[derive(Drop)]
+#[derive(Clone, Copy)]
 pub enum Agreement {
     // The notes or the board are refused.
     NotHeld,

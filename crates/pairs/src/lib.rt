@@ -14,7 +14,7 @@ ghost use Rattle.pairs.specs.Reading.{Read, IsItem, Numbered, mains_of, hashed_a
 use format::item::Item;
 
 // What comparing two boards finds.
-#[derive(Drop)]
+#[derive(Clone, Copy)]
 pub enum Agreement {
     // The kept board's end address does not stand at the item asked for.
     Apart,

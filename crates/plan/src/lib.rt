@@ -17,7 +17,7 @@ use format::table::Listing;
 use format::{board, table};
 use refusal::{Finding, Refusal};
 
-#[derive(Drop)]
+#[derive(Clone, Copy)]
 pub enum Plan {
     // Items, words of their index rows, and blocks of their addresses.
     Accepted {
@@ -50,7 +50,7 @@ impl Plan {
 }
 
 // What is seen of a head.
-#[derive(Drop)]
+#[derive(Clone, Copy)]
 pub enum Look {
     // The place behind its item, and the blocks of its address.
     Passes { end: usize, blocks: usize },
@@ -58,7 +58,7 @@ pub enum Look {
 }
 
 // How far the heads are read: the items whose heads passed, the place behind them, and the blocks of their addresses.
-#[derive(Drop)]
+#[derive(Clone, Copy)]
 pub struct Heads {
     pub items: usize,
     pub place: usize,

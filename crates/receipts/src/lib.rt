@@ -20,7 +20,6 @@ use format::head::Head;
 use index::Known;
 use lookup::bucket;
 
-#[derive(Drop)]
 pub struct Receipt {}
 
 impl Receipt {

@@ -4,7 +4,7 @@
 ghost use Rattle.std.specs.Prelude.{◌≡◌};
 ghost use Rattle.refusal.specs.Number.{number_of};
 
-#[derive(Drop)]
+#[derive(Clone, Copy)]
 pub enum Refusal {
     // 1 oversize
     TooLarge,
@@ -54,7 +54,7 @@ pub enum Refusal {
 }
 
 // What the checks of an item find.
-#[derive(Drop)]
+#[derive(Clone, Copy)]
 pub enum Finding {
     Passes,
     Fails(Refusal),

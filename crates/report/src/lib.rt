@@ -11,7 +11,7 @@ ghost use Rattle.report.specs.Reported.{reported};
 use format::format::Format;
 use refusal::Refusal;
 
-#[derive(Drop)]
+#[derive(Clone, Copy)]
 pub enum Answer {
     // Items, main items, counted ballots and their total weight.
     Accepted {
@@ -29,7 +29,7 @@ pub enum Answer {
 
 // The answer, and beside it the end address: that of the last main item, of 8, 12 or 16 words, and zeros; zeros for a refusal. (An enum
 // holds no array.)
-#[derive(Drop)]
+#[derive(Clone, Copy)]
 pub struct Report {
     pub answer: Answer,
     pub end: [u32; 16],

@@ -90,7 +90,7 @@ pub const H0: [u32; 8] = [
 ];
 
 // The eight working variables.
-#[derive(Drop)]
+#[derive(Clone, Copy)]
 pub struct Working {
     pub a: u32,
     pub b: u32,

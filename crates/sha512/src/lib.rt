@@ -9,7 +9,7 @@ ghost use Rattle.sha512.specs.State.{fresh384, fresh512, fed, ended, digest384_o
 // A running hash: the chaining words, the block that is not full yet in words of 32 bits, and the number of such words fed so far. Only
 // as many words of the block as that number modulo 32 mean something. SHA-384 and SHA-512 differ in where it begins and in what is taken
 // of it in the end: who begins one and takes the other gets what the contracts say, which is neither.
-#[derive(Drop)]
+#[derive(Clone, Copy)]
 pub struct Hash {
     chain: [u64; 8],
     block: [u32; 32],

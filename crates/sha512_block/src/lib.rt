@@ -141,7 +141,7 @@ pub fn start512() -> [u64; 8]
 }
 
 // The eight working variables.
-#[derive(Drop)]
+#[derive(Clone, Copy)]
 pub struct Working {
     pub a: u64,
     pub b: u64,

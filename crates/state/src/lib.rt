@@ -15,7 +15,7 @@ use format::phase::Phase;
 use index::Known;
 
 // Item numbers count from 1, and 0 says that there is none.
-#[derive(Drop)]
+#[derive(Clone, Copy)]
 pub struct State {
     // The place behind the items so far, their number, and that of the main items.
     pub place: usize,

@@ -13,7 +13,7 @@ use refusal::Finding;
 use state::State;
 
 // What was found of the item, and the state behind it; where it is refused, the state stays.
-#[derive(Drop)]
+#[derive(Clone, Copy)]
 pub struct Step {
     pub finding: Finding,
     pub state: State,

@@ -6,7 +6,7 @@ ghost use Rattle.refusal.specs.Number.{found_of};
 use refusal::{Finding, Refusal};
 
 // The bytes of the three files.
-#[derive(Drop)]
+#[derive(Clone, Copy)]
 pub struct Sizes {
     pub board: usize,
     pub verdicts: usize,
