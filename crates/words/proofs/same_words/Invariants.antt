@@ -1,0 +1,12 @@
+use mathlib.Core.Path.{◌≡◌}
+use Prim.Native.Nat.{◌≤◌, ◌-◌, ◌+◌}
+use Rattle.model.specs.Lists.{part}
+use Rattle.model.specs.Words.{same_words}
+use Rattle.words.proofs.same_words.Given as goal
+
+abbrev pub invariant-loop-k : goal.invariant-loop-k
+invariant-loop-k l =
+    (l.k ≤ l.n) × (same_words (part l.i l.n l.a) (part l.j l.n l.b) ≡ same_words (part (l.i + l.k) (l.n - l.k) l.a) (part (l.j + l.k) (l.n - l.k) l.b))
+
+abbrev pub decreases-loop-k : goal.decreases-loop-k
+decreases-loop-k l = l.n - l.k
