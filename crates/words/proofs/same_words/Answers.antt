@@ -1,6 +1,6 @@
 -- `words::same_words` meets its contract. The invariant: the answer is that for the words from k on. Assumes nothing.
-use mathlib.Core.Path.{◌∙◌, sym}
-use Prim.Native.Nat.{◌-◌}
+use mathlib.Core.Path.{ap, ◌∙◌, sym}
+use mathlib.Core.Bool.{not}
 use Rattle.words.proofs.Runs.{fours-all, fours-go, fours-stop}
 use borrow.Author.Rules.{rules}
 use Rattle.words.proofs.same_words.Goals as goal
@@ -17,7 +17,7 @@ returns-then-not-same_four c =
     let f = c.same_four in
     sym (c.loop-k.invariant.1
     ∙ fours-stop x.a.now x.b.now x.i x.j x.n c.loop-k.k p.0 p.1 c.loop-k-test.true
-    f.result f.ensures c.if-not-same_four.true)
+    f.result f.ensures (ap not c.if-not-same_four.true))
 
 pub loop-k-preserved : goal.loop-k-preserved
 loop-k-preserved c =
@@ -27,7 +27,7 @@ loop-k-preserved c =
       search rules,
       c.loop-k.invariant.1
           ∙ fours-go x.a.now x.b.now x.i x.j x.n c.loop-k.k p.0 p.1 c.loop-k-test.true
-          f.result f.ensures c.if-not-same_four.false,
+          f.result f.ensures (ap not c.if-not-same_four.false),
     )
 
 pub returns : goal.returns
