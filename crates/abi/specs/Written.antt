@@ -1,6 +1,6 @@
 -- What the entries for other languages answer, and what they leave in the words lent to them. Assumes nothing.
 use Rattle.std.specs.Prelude.{◌≡◌, Bool, cond, List, ℕ, leb, length}
-use Rattle.std.specs.Borrow.{Bor}
+use Rattle.std.specs.Borrow.{MutBor}
 use Rattle.model.specs.Format.{Format}
 use Rattle.model.specs.Audit.{Outcome}
 use Rattle.model.specs.Report.{report_of, index_after, ballots_after}
@@ -11,7 +11,7 @@ use Rattle.watch.specs.Notes.{agreement}
 use Rattle.exporting.specs.Export.{export_outcome, export_length, text_after}
 use Rattle.planning.specs.Plan.{plan}
 use Rattle.format.specs.Format.{format_of}
-use Rattle.audit.specs.Outcome.{Slice, outcome_of}
+use Rattle.audit.specs.Outcome.{Slice, MutSlice, outcome_of}
 use Rattle.entries.specs.Listing.{listing_outcome}
 use Rattle.entries.specs.Answering.{receipts_outcome}
 use Rattle.entries.specs.Watching.{notes_outcome}
@@ -19,7 +19,7 @@ use Rattle.answers.specs.Words.{overwritten, audit_size, answer_words, compare_s
 
 -- a slice that an entry writes: its words at entry and at exit
 abbrev pub Buffer : Type 0
-Buffer = Slice (Bor (List ℕ))
+Buffer = MutSlice (MutBor (List ℕ))
 
 -- whether a buffer has room for an answer of so many words
 abbrev pub has_room : ℕ → List ℕ → Bool

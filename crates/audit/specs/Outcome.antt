@@ -1,17 +1,21 @@
 -- The outcome of the audit of what a caller passed, so that a contract names it in a word. Assumes nothing.
 use Rattle.std.specs.Prelude.{ℕ, List, [], length}
-use Rattle.std.specs.Borrow.{Bor}
+use Rattle.std.specs.Borrow.{Bor, MutBor}
 use denote.Triple.Both.{Both}
 use Rattle.model.specs.Roll.{on_roll}
 use Rattle.model.specs.Audit.{Outcome, audit, items, item_limit}
 use Rattle.format.specs.Format.{format_of}
 
--- a slice of words as a contract has it: at entry, and as X at exit
+-- a slice of words that a function reads, as a contract has it: at entry, and as X at exit
 abbrev pub Slice : Type 0 → Type 0
 Slice X = Both (Bor (List ℕ)) X
 
+-- one that it writes
+abbrev pub MutSlice : Type 0 → Type 0
+MutSlice X = Both (MutBor (List ℕ)) X
+
 -- a board with its verdicts and its roll, and the index table and the ballot table by their lengths
-abbrev pub outcome_of : {A B C D E : Type 0} → Slice A → Slice B → Slice C → Slice D → Slice E → Outcome
+abbrev pub outcome_of : {A B C D E : Type 0} → Slice A → Slice B → Slice C → MutSlice D → MutSlice E → Outcome
 outcome_of board verdicts roll index ballots =
     audit (format_of board.entry.now) board.entry.now verdicts.entry.now roll.entry.now (length index.entry.now) (length ballots.entry.now)
 

@@ -4,10 +4,10 @@ use Rattle.std.specs.Prelude.{List, length}
 use Rattle.model.specs.Audit.{Outcome}
 use Rattle.watch.specs.Notes.{Agreement, notes_audit, agreement}
 use Rattle.format.specs.Format.{format_of}
-use Rattle.audit.specs.Outcome.{Slice}
+use Rattle.audit.specs.Outcome.{Slice, MutSlice}
 
 -- the outcome of a board with its verdicts and its roll, of notes, and of the two tables by their lengths
-abbrev pub notes_outcome : {A B C D E F : Type 0} → Slice A → Slice B → Slice C → Slice D → Slice E → Slice F → Outcome
+abbrev pub notes_outcome : {A B C D E F : Type 0} → Slice A → Slice B → Slice C → Slice D → MutSlice E → MutSlice F → Outcome
 notes_outcome board verdicts roll notes index ballots =
     notes_audit (format_of board.entry.now) board.entry.now verdicts.entry.now roll.entry.now notes.entry.now
     (length index.entry.now) (length ballots.entry.now)
