@@ -1,14 +1,14 @@
 -- The numbers of one word of a set: which ones a word has after an operation on words, and tests of all of them as one test of the word, which
 -- is how the code makes them. Of 32 bits, `2 ^ 32 - 1 - w` is what the code writes `!w`. Assumes nothing.
 use Prim.Native.Nat.{ℕ, zero, suc, ◌+◌, ◌-◌, ◌*◌, ◌/◌, ◌%◌, ◌^◌, ◌≤◌, ◌<◌, zero-le}
-use native.Mathlib.Nat.{div-one, zero-div, mod-lt, mod-eq_of_lt, one-mul, pow-suc, div-add-mod', le_of_suc-le-suc, not-suc-le-zero, le_refl, mul-mod_left, zero-add, mul-div_cancel}
+use native.Mathlib.Nat.{div-one, zero-div, mod-lt, mod-eq_of_lt, one-mul, pow-suc, div-add-mod', le_of_suc-le-suc, not-suc-le-zero, mul-mod_left, zero-add, mul-div_cancel}
 use native.Mathlib.Omega.{arith}
 use mathlib.Core.Path.{◌≡◌, refl, sym, ap, ◌∙◌}
-use mathlib.Core.Bool.{Bool, true, false, not, ◌&&◌, ◌||◌, not-not}
+use mathlib.Core.Bool.{Bool, not, ◌&&◌, ◌||◌, not-not}
 use lib.Arith.{lt-one, digits_div, digits_mod}
 use lib.Bits.{bit_and, bit_or, and_shr, or_shr, and_mod, or_mod, and_lt}
 use lib.Count.{ones_in, ones, ones_step}
-use lib.Dec.{T, eqb, ltb, eqb-zero-suc, eqb-suc-zero, eqb-suc-suc, leb-suc-zero, leb-suc-suc, lit<}
+use lib.Dec.{eqb, ltb, eqb-zero-suc, eqb-suc-zero, eqb-suc-suc, leb-suc-zero, leb-suc-suc, lit<}
 use lib.Pow.{pow-lt, shr-shr}
 use borrow.Author.Tests.{eqb-true, eqb-false, eq-eqb, ne_eqb, lt-ltb}
 use Rattle.model.specs.Lists.{◌⇒◌}
