@@ -13,7 +13,7 @@ use Rattle.text.proofs.Digits.{length-word, length-pair}
 -- numbers behind spaces, one by one
 spaced-more : (n m : ℕ) (ns : List ℕ) → spaced (n ∷ m ∷ ns) ≡ spaced (n ∷ []) ++ spaced (m ∷ ns)
 unfolding spaced
-spaced-more n m ns = simp (append-nil, append_assoc)
+spaced-more n m ns = simp append_assoc
 
 -- ---- the parts of a line
 
