@@ -12,7 +12,6 @@ use borrow.Author.Tests.{eq-eqb, ne_eqb, not-true, not-false}
 use Rattle.model.specs.Lists.{if◌then◌else◌, part}
 use Rattle.model.specs.Words.{main_kind, same_words}
 use Rattle.model.specs.Codes.{session_type}
-use Rattle.model.specs.Item as model
 use Rattle.model.specs.Item.{item_at, item_length, code}
 use Rattle.model.specs.History.{Entry, entry, main, child_of}
 use Rattle.model.specs.Phase.{session_of}
