@@ -88,11 +88,11 @@ module _ {board index : List ℕ} {n : ℕ} {c : Known} (p : Passing board index
       (inside, same, omega (arith, sets-few board))
 
   -- a round has a number that the state has a place for
-  pub round_number_lem : c.item.head.code ≡ round_type
+  pub round-number : c.item.head.code ≡ round_type
       → (c.item.content < length board) × (get_or board c.item.content 0 ≡ round_number (item_after board n))
       × (get_or board c.item.content 0 < 16)
   unfolding has_words round_ok
-  round_number_lem q =
+  round-number q =
       let (inside, same) = first_word round_type 13 tt q in
       let small = (simp facts at (content-rules p.meets.content).round (typed round_type q)).0.0 in
       (inside, same, omega arith)

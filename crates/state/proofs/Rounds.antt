@@ -1,28 +1,27 @@
 -- The rounds in force by their numbers: a later type 6 with the same number replaces the earlier, so of each number 0..15 at most one round
 -- stands, and the code keeps sixteen item numbers in place of the list. Paper: "Phases". Assumes nothing.
-use Prim.Native.Nat.{ℕ, zero, suc, ◌+◌, ◌-◌, ◌/◌, ◌%◌, ◌^◌, ◌≤◌, ◌<◌}
+use Prim.Native.Nat.{ℕ, zero, suc, ◌+◌, ◌/◌, ◌%◌, ◌≤◌, ◌<◌}
 use native.Mathlib.Nat.{not-suc-le-zero, le_refl}
 use native.Mathlib.Numerals.{add-one}
 use native.Mathlib.Omega.{arith}
 use mathlib.Core.Path.{◌≡◌, refl, sym, ap, subst, ◌∙◌}
 use mathlib.Core.Bool.{Bool, true, false, not, ◌&&◌, ◌||◌, and-false, or-true, or-false}
 use mathlib.Core.List.{List, [], ◌∷◌, ◌++◌}
-use lib.Bits.{bit_or, or_lt}
-use lib.ListN.{length, get_or, take, drop, length-take, get_or-eq_default}
-use lib.Seq.{get_or-take, get_or-drop}
-use lib.Dec.{T, eqb, ltb, eqb→eq}
-use borrow.Author.Tests.{eqb-true, eqb-false, ltb-true, ltb-false, eq-eqb, ne_eqb}
-use Rattle.model.specs.Lists.{if◌then◌else◌, part, any, keep, latest}
-use Rattle.model.specs.Words.{count_of, set_bits, bit, in_words}
+use lib.Bits.{bit_or}
+use lib.ListN.{length, get_or}
+use lib.Dec.{T, eqb, eqb→eq}
+use borrow.Author.Tests.{eqb-true, eqb-false, eq-eqb, ne_eqb}
+use Rattle.model.specs.Lists.{if◌then◌else◌, any, keep, latest}
+use Rattle.model.specs.Words.{set_bits, bit, in_words}
 use Rattle.model.specs.Codes.{round_type}
 use Rattle.model.specs.Format.{Format}
-use Rattle.model.specs.Item.{Item, item_at, content_at, code, word}
-use Rattle.model.specs.History.{History, Entry, absent, entry, entry_of, item_no, items_with, last_from, typed, place_of, history}
+use Rattle.model.specs.Item.{Item, code}
+use Rattle.model.specs.History.{History, Entry, absent, entry_of, item_no, items_with, last_from, typed}
 use Rattle.model.specs.Phase.{round_number, round_contests, same_round, rounds, is_open}
 use Rattle.model.specs.Content.{enables, round_ok}
 use Rattle.model.specs.Roll.{Eligibility}
 use Rattle.model.specs.Sound.{Meets, Passed, none, next}
-use Rattle.model.proofs.Tests.{by-test, passes, by-if, facts}
+use Rattle.model.proofs.Tests.{by-test, passes, facts}
 use Rattle.model.proofs.Lists.{Every, every-snoc}
 use Rattle.model.proofs.Numbers.{last_entry, entry-last}
 use Rattle.model.proofs.State.{last_snoc, any_last}

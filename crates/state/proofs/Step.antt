@@ -14,7 +14,7 @@ use Rattle.model.specs.Lists.{if◌then◌else◌, count, keep, latest}
 use Rattle.model.specs.Words.{between, main_kind, set_bits}
 use Rattle.model.specs.Codes.{contest_type, threshold_type, authorizer_type, round_type, intent_type}
 use Rattle.model.specs.Item.{code}
-use Rattle.model.specs.History.{Entry, first_from, last, last_from, main, typed, config, place_of, history, entry_of}
+use Rattle.model.specs.History.{Entry, first_from, last_from, main, typed, config, place_of, history, entry_of}
 use Rattle.model.specs.Counted.{counted}
 use Rattle.model.proofs.Tests.{by-test}
 use Rattle.model.proofs.Lists.{count-few}
@@ -30,7 +30,7 @@ use Rattle.state.specs.After.{later, earliest, contests_after, slot_after}
 use Rattle.state.specs.Stands.{Stands}
 use Rattle.state.proofs.Rounds.{round_at-snoc}
 use Rattle.state.proofs.Defined.{defined_word-snoc}
-use Rattle.state.proofs.Next.{Next, next-kind, next-code, next-end, passing-next, contest-number, round_number}
+use Rattle.state.proofs.Next.{Next, next-kind, next-code, next-end, passing-next, contest-number, round-number}
 
 -- ---- before the first item
 
@@ -109,7 +109,7 @@ module _ {board index : List ℕ} {n : ℕ} {c : Known} (p : Passing board index
       → (j : ℕ) → j < 16 → get_or (set old k (n + 1)) j 0 ≡ slot_after (get_or old j 0) n j (item_after board n)
   unfolding slot_after if◌then◌else◌
   slot-new old k q size is j l =
-      let (inside, same, small) = round_number p q in
+      let (inside, same, small) = round-number p q in
       let code_is : eqb (code (item_after board n)) round_type ≡ true = rw (← next-code (passing-next p)) (eq-eqb _ _ q) in
       rw (code_is, ← same, ← is)
       (by-test (eqb k j)

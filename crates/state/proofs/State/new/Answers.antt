@@ -2,10 +2,9 @@
 use mathlib.Core.Path.{refl}
 use lib.ListN.{get_or-replicate}
 use Rattle.state.proofs.Step.{stands-new}
-use Rattle.state.proofs.State.new.Statement.{statement}
-use Rattle.state.proofs.State.new.Tie as tie
+use Rattle.state.proofs.State.new.Goals as goal
 
-returns : tie.Need-returns
+pub returns : goal.returns
 returns c = (
   refl,
   stands-new (record {
@@ -22,6 +21,3 @@ returns c = (
     ballots = refl;
   }),
 )
-
-pub new_spec : {M : Type 1} → statement M
-new_spec = tie.close (tie.spec returns)
