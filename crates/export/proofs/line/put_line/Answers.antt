@@ -1,0 +1,25 @@
+-- `export::line::put_line` meets its contract. Assumes nothing.
+use mathlib.Core.List.{[], ◌∷◌}
+use Rattle.format.specs.Layout.{item_on}
+use Rattle.text.proofs.Placed.{put_then}
+use Rattle.export.specs.Lines.{numbers_text, strings_text}
+use Rattle.export.proofs.Parts.{Room, room, first, rest, stands, line-parts}
+use Rattle.export.proofs.line.put_line.Goals as goal
+
+pub pair_at-requires : goal.pair_at-requires
+pair_at-requires c = (stands c.requires.0).time
+
+pub put_numbers-strings-requires : goal.put_numbers-strings-requires
+put_numbers-strings-requires c =
+    let all : Room c.args.out.now c.args.at (numbers_text c.args.item.head.code c.pair_at.result ∷ strings_text (item_on c.args.board.now c.args.item.place) ∷ []) = room (line-parts c.requires.0 c.pair_at.ensures) c.requires.1 in
+    first all
+
+pub put_strings-requires : goal.put_strings-requires
+put_strings-requires c =
+    let all : Room c.args.out.now c.args.at (numbers_text c.args.item.head.code c.pair_at.result ∷ strings_text (item_on c.args.board.now c.args.item.place) ∷ []) = room (line-parts c.requires.0 c.pair_at.ensures) c.requires.1 in
+    (c.requires.0, first (rest all c.put_numbers-strings.ensures))
+
+pub returns : goal.returns
+returns c =
+    rw (line-parts c.requires.0 c.pair_at.ensures)
+    (put_then c.put_numbers-strings.ensures c.put_strings.ensures)
