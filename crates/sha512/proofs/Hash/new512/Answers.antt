@@ -3,15 +3,10 @@ use mathlib.Core.Path.{ap}
 use mathlib.Core.List.{List}
 use lib.ListN.{replicate}
 use Prim.Native.Nat.{ℕ}
-use borrow.Author.Rules.{rules}
 use Rattle.sha2_common.specs.State as sha2
 use Rattle.sha512.specs.State.{hash, fresh512}
-use Rattle.sha512.proofs.Hash.new512.Statement.{statement}
-use Rattle.sha512.proofs.Hash.new512.Tie as tie
+use Rattle.sha512.proofs.Hash.new512.Goals as goal
 
-returns : tie.Need-returns
+pub returns : goal.returns
 unfolding fresh512 sha2.fresh
 returns c = ap (λ (H : List ℕ). hash (record { chain = H; block = replicate 32 0; count = 0 })) c.start512.ensures
-
-pub new512-spec : {M : Type 1} → statement M
-new512-spec = tie.close (tie.spec (λ c κs. search rules) returns)
