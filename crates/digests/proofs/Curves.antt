@@ -4,7 +4,7 @@ use Prim.Native.Nat.{ℕ, ◌<◌, ◌≤◌}
 use native.Mathlib.Omega.{arith}
 use mathlib.Core.Path.{◌≡◌, refl, sym, ap, subst}
 use mathlib.Core.List.{List, [], ◌∷◌, ◌++◌}
-use lib.ListN.{length, get_or, replicate, length-replicate, length-append}
+use lib.ListN.{length, replicate, length-replicate, length-append}
 use lib.Dec.{lit≤}
 use Rattle.model.specs.Lists.{if◌then◌else◌, ◌⇒◌, part, any, keep}
 use Rattle.model.specs.Words.{kind_of, code_of, count_of, pair, closing_word}
