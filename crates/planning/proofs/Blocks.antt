@@ -1,6 +1,6 @@
 -- The blocks of a plan, by the standard's padding, summed; and the plan of an accepted board: its items, the words of its index rows, its addresses.
 -- Paper: request (x), "the block count equals the blocks that the standard's padding gives for its addresses, summed". Assumes nothing.
-use Prim.Native.Nat.{ℕ, ◌+◌, ◌*◌, ◌/◌, ◌<◌}
+use Prim.Native.Nat.{ℕ, ◌+◌, ◌/◌, ◌<◌}
 use native.Mathlib.Omega.{arith}
 use mathlib.Core.Path.{◌≡◌, refl, sym, ap, ap₂, ◌∙◌}
 use mathlib.Core.Bool.{◌&&◌}

@@ -1,6 +1,6 @@
 -- Planning a machine's day: "From the heads, with the widths read as for the audit, we want, before an audit, the number of items, the index words
 -- they fill and the hash blocks of all addresses, without hashing." Paper: request (x). Assumes nothing.
-use Rattle.std.specs.Prelude.{ℕ, ◌+◌, ◌*◌, ◌/◌, ◌≤◌, ◌<◌, ◌≡◌, ◌≢◌, Bool, not, length, get_or, T, eqb}
+use Rattle.std.specs.Prelude.{ℕ, ◌+◌, ◌*◌, ◌/◌, ◌<◌, ◌≡◌, ◌≢◌, Bool, not, length, get_or, T, eqb}
 use mathlib.Core.List.{List, [], ◌∷◌}
 use Rattle.sha2_common.specs.Blocks.{HashFunction}
 use Rattle.sha256_blocks.specs.Blocks.{sha256_function}
