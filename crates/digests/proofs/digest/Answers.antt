@@ -4,8 +4,7 @@ use Rattle.digests.proofs.Digests.{by-384, by-256, whole-512, digest-put}
 use Rattle.digests.proofs.digest.Goals as goal
 
 pub returns-then-curve-eq-SECP521R1 : goal.returns-then-curve-eq-SECP521R1
-returns-then-curve-eq-SECP521R1 c =
-    let start = c.before.before.before in whole-512 start.args.curve start.args.message.now c.if-curve-eq-SECP521R1.true c.digest512.ensures
+returns-then-curve-eq-SECP521R1 c = whole-512 c.args.curve c.args.message.now c.if-curve-eq-SECP521R1.true c.digest512.ensures
 
 pub returns-then-curve-eq-SECP384R1 : goal.returns-then-curve-eq-SECP384R1
 returns-then-curve-eq-SECP384R1 c =
