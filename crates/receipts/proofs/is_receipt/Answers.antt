@@ -1,0 +1,47 @@
+-- `is_receipt` meets its contract: its two tests are those of the address and of the signature. Assumes nothing.
+use native.Mathlib.Omega.{arith}
+use Rattle.index.proofs.Reading.{known-within}
+use Rattle.lookup.proofs.Views.{known-end, known-width}
+use Rattle.receipts.proofs.Places.{placed, within, known-begins, signature-width, address-other, address_same}
+use mathlib.Core.Path.{ap}
+use mathlib.Core.Bool.{not}
+use borrow.Author.Rules.{rules}
+use Rattle.receipts.proofs.is_receipt.Goals as goal
+
+pub overflow_sub-address : goal.overflow_sub-address
+overflow_sub-address c = omega (arith, known-end c.requires.known.0)
+
+pub overflow_sub-signature : goal.overflow_sub-signature
+overflow_sub-signature c = omega (arith, known-begins c.requires.known.0)
+
+-- where the receipt stands, by the widths that the code finds
+pub overflow_mul-at : goal.overflow_mul-at
+overflow_mul-at c =
+    let at = placed c.requires.known.1 (signature-width c.requires.known.0) (known-width c.requires.known.0) c.requires.k_bound in
+    search (rules, at.place)
+
+pub overflow_add-at-2 : goal.overflow_add-at-2
+overflow_add-at-2 c =
+    let at = placed c.requires.known.1 (signature-width c.requires.known.0) (known-width c.requires.known.0) c.requires.k_bound in
+    search (rules, at.place)
+
+pub same_words-requires : goal.same_words-requires
+same_words-requires c =
+    let is = c.requires.known.0 in
+    let at = placed c.requires.known.1 (signature-width c.requires.known.0) (known-width c.requires.known.0) c.requires.k_bound in
+    (rw (known-width is) (known-within is).address, at.end)
+
+pub returns-then-not-same_words : goal.returns-then-not-same_words
+returns-then-not-same_words c =
+    let is = c.requires.known.0 in
+    address-other is _ c.args.k (signature-width is) (known-width is) c.same_words.ensures (ap not c.if-not-same_words.true)
+
+pub same_words-requires-2 : goal.same_words-requires-2
+same_words-requires-2 c =
+    let is = c.requires.known.0 in
+    (rw (signature-width is) (known-within is).signature, within (placed c.requires.known.1 (signature-width c.requires.known.0) (known-width c.requires.known.0) c.requires.k_bound))
+
+pub returns : goal.returns
+returns c =
+    let is = c.requires.known.0 in
+    address_same is _ c.args.k (signature-width is) (known-width is) c.same_words.ensures (ap not c.if-not-same_words.false) c.same_words-2.ensures
