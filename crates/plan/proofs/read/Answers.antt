@@ -1,0 +1,83 @@
+-- `read` meets its contract. The invariant: the heads before the place are read, and the plan is what is read from there on. Assumes nothing.
+use native.Mathlib.Omega.{arith}
+use Rattle.plan.proofs.Words.{known_start, known-after}
+use Rattle.plan.proofs.Reading.{going_start, stop-ended, stop-closing, stop-full, stop-refused, going_on, blocks-within}
+use Rattle.plan.proofs.read.Goals as goal
+
+pub loop-format-init : goal.loop-format-init
+loop-format-init c = (going_start c.args.board.now c.requires.0 c.requires.1, known_start c.args.board.now)
+
+pub refused-requires : goal.refused-requires
+refused-requires c = c.loop-format.invariant.0.read.few
+
+pub returns-then-board-place : goal.returns-then-board-place
+returns-then-board-place c =
+    let board = c.args.board.now in
+    stop-ended board c.loop-format.invariant.0 c.if-board-place.true c.refused.result (c.refused.ensures board)
+
+pub close-requires : goal.close-requires
+close-requires c = (c.loop-format.invariant.0.read, c.if-board-place.false, c.requires.0)
+
+pub returns-then-of-eq-CLOSING : goal.returns-then-of-eq-CLOSING
+returns-then-of-eq-CLOSING c =
+    stop-closing c.args.board.now c.loop-format.invariant.0 c.if-board-place.false c.of.ensures c.if-of-eq-CLOSING.true
+    c.close.result c.close.ensures
+
+pub refused-requires-then-s-eq-ITEMS : goal.refused-requires-then-s-eq-ITEMS
+refused-requires-then-s-eq-ITEMS c = c.loop-format.invariant.0.read.few
+
+pub returns-then-s-eq-ITEMS : goal.returns-then-s-eq-ITEMS
+returns-then-s-eq-ITEMS c =
+    let board = c.args.board.now in
+    stop-full board c.loop-format.invariant.0 c.if-board-place.false c.of.ensures c.if-of-eq-CLOSING.false c.if-s-eq-ITEMS.true
+    c.refused-then-s-eq-ITEMS.result (c.refused-then-s-eq-ITEMS.ensures board)
+
+pub look_at-seen-requires : goal.look_at-seen-requires
+look_at-seen-requires c =
+    record {
+      place_in_bounds = (c.if-board-place.false, c.requires.0);
+      format_value = (c.of-format.ensures, c.loop-format.invariant.1);
+    }
+
+pub refused-requires-in-Fails : goal.refused-requires-in-Fails
+refused-requires-in-Fails c = c.loop-format.invariant.0.read.few
+
+pub returns-in-Fails : goal.returns-in-Fails
+returns-in-Fails c =
+    let board = c.args.board.now in
+    let g = c.loop-format.invariant.0 in
+    let few = g.read.few in
+    let more = c.if-s-eq-ITEMS.false in
+    stop-refused board g c.if-board-place.false c.of.ensures c.if-of-eq-CLOSING.false (omega arith)
+    c.look_at-seen.ensures.answer _ c.in-Fails.is c.refused-in-Fails.result (c.refused-in-Fails.ensures board)
+
+pub overflow_add-s : goal.overflow_add-s
+overflow_add-s c = let few = c.loop-format.invariant.0.read.few in omega arith
+
+pub overflow_add-s-in-Passes : goal.overflow_add-s-in-Passes
+overflow_add-s-in-Passes c =
+    let board = c.args.board.now in
+    let g = c.loop-format.invariant.0 in
+    let few = g.read.few in
+    let more = c.if-s-eq-ITEMS.false in
+    let within = blocks-within board g c.if-board-place.false c.of.ensures c.if-of-eq-CLOSING.false (omega arith)
+    c.look_at-seen.ensures.answer _ _ c.in-Passes.is in
+    let short = c.requires.0 in
+    omega arith
+
+pub loop-format-smaller : goal.loop-format-smaller
+loop-format-smaller c =
+    let few = c.loop-format.invariant.0.read.few in
+    let more = c.if-s-eq-ITEMS.false in
+    omega arith
+
+pub loop-format-preserved : goal.loop-format-preserved
+loop-format-preserved c =
+    let board = c.args.board.now in
+    let g = c.loop-format.invariant.0 in
+    let few = g.read.few in
+    let more = c.if-s-eq-ITEMS.false in (
+      going_on board g c.if-board-place.false c.of.ensures c.if-of-eq-CLOSING.false (omega arith)
+          c.look_at-seen.ensures.answer _ _ c.in-Passes.is,
+      known-after board _ _ c.loop-format.invariant.1 c.look_at-seen.ensures.known,
+    )
