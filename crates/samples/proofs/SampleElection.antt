@@ -21,7 +21,7 @@ use Rattle.model.specs.Only.{on_board_ok, under_parent_ok, under_ballot_ok, only
 use Rattle.model.specs.Content.{contests_ok, may_vote, cryptograms_ok, genesis_ok, contest_ok, threshold_ok, authorizer_ok, round_ok, session_ok, commitment_ok, ballot_ok, fingerprint_ok, trustees_ok, content_ok}
 use Rattle.model.specs.Roll.{electors, rising, is_bad_roll, on_roll, on_roll_ok}
 use Rattle.model.specs.Keys.{opening, key_of, good_verdict, verdict_ok, key_ok, signature_ok}
-use Rattle.model.specs.Audit.{Outcome, unread, refused, accepted, first_unmet, checks, fault_in, head_fault, closing, judged, word_at, items, reading, audit, index_need, ballot_need}
+use Rattle.model.specs.Audit.{Outcome, unread, refused, accepted, first_unmet, checks, fault_in, head_fault, closing, judged, word_at, reading, audit, index_need, ballot_need}
 use Rattle.model.specs.Report.{filled, report_of, number_word, index_row_of, index_rows, ballot_rows}
 use Rattle.model.specs.Sound.{Sound}
 use Rattle.model.specs.Ancestry.{up_to, ancestry}

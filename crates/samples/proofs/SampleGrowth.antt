@@ -1,7 +1,7 @@
 -- One more item: five pairs of boards under toy hashes, the second of each with one more main item: a text, a session, a spoil, the cast of a new
 -- voter, and a cast again. Both are accepted; what is reported and written for them is computed to the word, and so is the step from the one to the
 -- other. So what is proved of one more item is proved of such items. Paper: request (xiii). Assumes nothing.
-use Prim.Native.Nat.{ℕ, ◌+◌, ◌≤◌}
+use Prim.Native.Nat.{ℕ, ◌≤◌}
 use native.Mathlib.Omega.{arith}
 use mathlib.Core.Path.{◌≡◌, refl, ap, ◌∙◌}
 use mathlib.Core.List.{List, [], ◌∷◌, ◌++◌, append_assoc, append-nil}

@@ -2,7 +2,7 @@
 -- audit refuses. So what is proved of plans is proved of boards that are planned and of boards that are not. Paper: request (x). Assumes nothing.
 use Prim.Native.Nat.{ℕ, ◌*◌}
 use mathlib.Core.Path.{◌≡◌, refl}
-use mathlib.Core.List.{List, [], ◌∷◌, ◌++◌}
+use mathlib.Core.List.{[], ◌∷◌, ◌++◌}
 use lib.ListN.{take}
 use Rattle.sha256_block.specs.Fips as sha256
 use Rattle.sha512_block.specs.Fips as sha512
@@ -15,7 +15,7 @@ use Rattle.model.specs.Types.{row_of, row_in, table, fits}
 use Rattle.model.specs.History.{entry_of}
 use Rattle.model.specs.Audit.{head_fault, closing, judged, word_at, reading}
 use Rattle.planning.specs.Plan.{heads_read, hash_on, blocks_for, Plan, sum_of, plan_of, plan}
-use Rattle.samples.proofs.SampleElection.{Signed, election, words_in, board_of, board}
+use Rattle.samples.proofs.SampleElection.{election, words_in, board_of, board}
 use Rattle.samples.proofs.SampleWide.{wide_on}
 use Rattle.samples.proofs.SampleCurves.{on, larger, largest, commitments, ending}
 

@@ -18,7 +18,7 @@ use Rattle.model.specs.Only.{on_board_ok, under_parent_ok, under_ballot_ok, only
 use Rattle.model.specs.Content.{contests_ok, may_vote, cryptograms_ok, genesis_ok, contest_ok, threshold_ok, authorizer_ok, round_ok, session_ok, commitment_ok, ballot_ok, fingerprint_ok, trustees_ok, content_ok}
 use Rattle.model.specs.Roll.{electors, rising, is_bad_roll, on_roll, on_roll_ok, roll_weight}
 use Rattle.model.specs.Keys.{opening, key_of, verdict_ok, key_ok, signature_ok}
-use Rattle.model.specs.Audit.{Outcome, unread, refused, accepted, first_unmet, checks, fault_in, head_fault, closing, judged, word_at, items, reading, audit, index_need, ballot_need}
+use Rattle.model.specs.Audit.{Outcome, unread, refused, accepted, first_unmet, checks, fault_in, head_fault, closing, judged, word_at, reading, audit, index_need, ballot_need}
 use Rattle.samples.proofs.SampleElection.{Signed, ◌by◌, item, key, toy, election, words_in, verdicts_in, board_of, board, verdicts, roll, items-in, is-accepted, votes}
 
 -- the answer for the election with a roll

@@ -19,7 +19,7 @@ use Rattle.model.specs.Only.{on_board_ok, under_parent_ok, under_ballot_ok, only
 use Rattle.model.specs.Content.{contests_ok, may_vote, cryptograms_ok, genesis_ok, contest_ok, threshold_ok, authorizer_ok, round_ok, session_ok, commitment_ok, ballot_ok, fingerprint_ok, trustees_ok, content_ok}
 use Rattle.model.specs.Roll.{electors, rising, is_bad_roll, on_roll, on_roll_ok}
 use Rattle.model.specs.Keys.{opening, key_of, verdict_ok, key_ok, signature_ok}
-use Rattle.model.specs.Audit.{Outcome, refused, first_unmet, checks, fault_in, head_fault, closing, judged, word_at, items, reading, audit}
+use Rattle.model.specs.Audit.{Outcome, refused, first_unmet, checks, fault_in, head_fault, closing, judged, word_at, reading, audit}
 use Rattle.samples.proofs.SampleElection.{Signed, ◌by◌, item_on, key, words_in, verdicts_in, own_answer, items-in}
 
 -- contests 33 and 255: bit 1 of word 1, and bit 31 of word 7; contest 33 alone; contests 1 and 31
