@@ -13,7 +13,7 @@ use Rattle.model.specs.Refusal.{no_fault, too_large, truncated}
 use Rattle.model.specs.Format.{Format}
 use Rattle.model.specs.History.{History, place_of, history}
 use Rattle.model.specs.Roll.{Eligibility}
-use Rattle.model.specs.Audit.{Outcome, refused, fault, closing, judged, word_at, reading, items, item_limit, closing_ok}
+use Rattle.model.specs.Audit.{Outcome, refused, fault, closing, judged, word_at, reading, item_limit, closing_ok}
 use Rattle.model.proofs.Tests.{tests, if_yes, if_no}
 use Rattle.model.proofs.Unchecked.{length-history}
 

@@ -1,10 +1,10 @@
 -- `store` meets its contract: i words are stored.
-use mathlib.Core.Path.{◌≡◌, ◌∙◌}
-use Prim.Native.Nat.{◌+◌, ◌-◌, ◌≤◌}
+use mathlib.Core.Path.{◌∙◌}
+use Prim.Native.Nat.{◌+◌}
 use native.Mathlib.Omega.{arith}
 use borrow.Author.Rules.{rules}
-use lib.ListN.{length, get_or, length-set}
-use lib.Seq.{paste, paste-zero}
+use lib.ListN.{get_or, length-set}
+use lib.Seq.{paste-zero}
 use Rattle.sha2_common.proofs.Feed.{paste-next, paste-end}
 use Rattle.sha2_common.proofs.store.Goals as goal
 

@@ -1,5 +1,5 @@
 -- `first_rounds` meets its contract.
-use Rattle.std.proofs.Common.{◌≡◌, ◌-◌, refl, arith}
+use Rattle.std.proofs.Common.{◌≡◌, refl, arith}
 use Rattle.sha2_common.proofs.Schedule.{onward-to, onward_then}
 use Rattle.sha512_block.proofs.first_rounds.Goals as goal
 

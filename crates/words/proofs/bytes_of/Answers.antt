@@ -1,7 +1,6 @@
 -- `words::bytes_of` meets its contract. The invariant: the bytes of the first i words are written, and the rest is as it stood. Assumes nothing.
 use mathlib.Core.Path.{◌≡◌, ◌∙◌}
-use Prim.Native.Nat.{◌-◌}
-use lib.ListN.{length, take}
+use lib.ListN.{length}
 use lib.Seq.{take-length}
 use Rattle.words.proofs.Bytes.{write_word}
 use native.Mathlib.Omega.{arith}

@@ -1,8 +1,7 @@
 -- `words::clear` meets its contract. The invariant: zeros up to i, then what stood there. Assumes nothing.
 use mathlib.Core.Path.{◌≡◌, ◌∙◌}
 use mathlib.Core.List.{append-nil}
-use Prim.Native.Nat.{◌-◌}
-use lib.ListN.{length, drop}
+use lib.ListN.{length}
 use lib.Seq.{drop-length}
 use borrow.Author.Fill.{fill_more}
 use native.Mathlib.Omega.{arith}

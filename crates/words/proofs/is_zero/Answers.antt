@@ -1,6 +1,5 @@
 -- `words::is_zero` meets its contract. The invariant: the answer is that for the words from k on. Assumes nothing.
 use mathlib.Core.Path.{◌∙◌, sym}
-use Prim.Native.Nat.{◌-◌}
 use Rattle.words.proofs.Runs.{zeros-go, zeros-stop, zeros-end}
 use native.Mathlib.Omega.{arith}
 use borrow.Author.Rules.{rules}

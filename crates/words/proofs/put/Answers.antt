@@ -1,8 +1,6 @@
 -- `put` meets its contract. The invariant: the first i words are written. Assumes nothing.
 use mathlib.Core.Path.{refl, ◌∙◌}
-use Prim.Native.Nat.{◌-◌}
-use lib.ListN.{take}
-use lib.Seq.{sets, take_all}
+use lib.Seq.{take_all}
 use Rattle.words.proofs.Writing.{sets_more}
 use native.Mathlib.Omega.{arith}
 use borrow.Author.Rules.{rules}

@@ -1,7 +1,5 @@
 -- `words::same_rest` meets its contract. The invariant: the answer is that for the words from k on. Assumes nothing.
 use mathlib.Core.Path.{◌∙◌, sym}
-use Prim.Native.Nat.{◌-◌}
-use Rattle.model.specs.Lists.{part}
 use Rattle.words.proofs.Runs.{parts-go, parts-stop, parts-end}
 use native.Mathlib.Omega.{arith}
 use borrow.Author.Rules.{rules}

@@ -1,6 +1,5 @@
 -- `words::words_of` meets its contract. The invariant: the first i words are written, and the rest is as it stood. Assumes nothing.
 use mathlib.Core.Path.{◌∙◌}
-use Prim.Native.Nat.{◌-◌}
 use Rattle.words.proofs.Bytes.{put-more, put_all}
 use native.Mathlib.Omega.{arith}
 use borrow.Author.Rules.{rules}
