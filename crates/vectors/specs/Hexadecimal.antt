@@ -1,6 +1,6 @@
 -- Numbers in hexadecimal, as text.
-use Rattle.std.specs.Prelude.{ℕ, zero, suc, ◌+◌, ◌*◌, Bool, true, ◌&&◌, List, [], ◌∷◌, ◌++◌, eqb, ltb, take, drop}
-use Rattle.std.specs.List.{position_or_len}
+use Rattle.std.specs.Prelude.{ℕ, zero, suc, ◌+◌, ◌*◌, Bool, true, ◌&&◌, List, [], ◌∷◌, ◌++◌, ltb, take, drop}
+use Rattle.vectors.specs.Scan.{index_of}
 
 -- the digits, 0 to 9 and a to f
 unfoldable pub digits : List ℕ
@@ -9,7 +9,7 @@ digits =
 
 -- the value of a digit, 16 of another byte
 unfoldable pub digit : ℕ → ℕ
-digit c = position_or_len (λ d. eqb d c) digits
+digit c = index_of c digits
 
 -- whether a text is of digits alone
 unfoldable pub all_digits : List ℕ → Bool
