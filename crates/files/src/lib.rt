@@ -2,7 +2,8 @@
 // bounded.
 #![tactic(auto)]
 
-ghost use Rattle.std.specs.Prelude.{◌≤◌, ◌^◌, length};
+ghost use Rattle.std.specs.Prelude.{◌≤◌, ◌^◌, length, take};
+ghost use Rattle.std.specs.Io.KnownBytes.{Consumes};
 
 use std::io::Read;
 use std::rt::Files;
@@ -11,9 +12,11 @@ use std::{fs, str};
 // Reads after which a file counts as ended: a loop that is proved has to end, and the count of bytes has to fit. No file is as long.
 const READS: usize = 0x100_0000_0000;
 
-// Reads until the buffer is full, the input ends or a read fails, and gives how many bytes it put at the buffer's start.
+// Reads until the buffer is full, the input ends or a read fails, and gives how many bytes it put at the buffer's start. Where
+// it is known what the input has, they are its first bytes, and the rest is left.
 pub fn fill<R: Read>(from: &mut R, buf: &mut [u8]) -> usize
-    ensures { result ≤ length buf.new }
+    ensures within { result ≤ length buf.new }
+    ensures bytes { Consumes (R.remaining from.old) (R.remaining from.new) (take result buf.new) }
 {
     let mut done: usize = 0;
     while done < buf.len() {
