@@ -7,8 +7,9 @@ use native.Mathlib.Omega.{arith}
 use borrow.Author.Tests.{eqb-true, leb-true, eq-eqb, ne_eqb}
 use lib.Dec.{eqb, leb}
 use lib.ListN.{length, take, drop, length-drop, drop_of_length-le}
-use lib.Seq.{take-length, drop-drop}
-use Rattle.bytes.specs.Bytes.{index_of, index_after, slice}
+use lib.Seq.{take_all, drop-drop}
+use Rattle.std.proofs.Math.Numerals.{one-add}
+use Rattle.vectors.specs.Scan.{index_of}
 use Rattle.vectors.specs.Hexadecimal.{all_digits, number}
 use Rattle.vectors.specs.Input.{none, bits_of, is_hash, is_message, next, begin, lines, all_read}
 
@@ -55,13 +56,13 @@ module _ (bits : ℕ) (line : List ℕ) where
 -- ---- lines
 
 -- the first line ends before the first line feed
-cut : (cs : List ℕ) (c : ℕ) (t : Bool) → let k = index_after t (index_of 0x0a cs) in
+cut : (cs : List ℕ) (c : ℕ) (t : Bool) → let k = cond (not t) (1 + index_of 0x0a cs) 0 in
     cond t ([] ∷ lines cs) (begin c (lines cs)) ≡ take k (c ∷ cs) ∷ lines (drop (suc k) (c ∷ cs))
-unfolding index_of index_after begin lines
+unfolding index_of begin lines
 cut [] c true = refl
 cut [] c false = refl
 cut (d ∷ ds) c true = refl
-cut (d ∷ ds) c false = ap (begin c) (cut ds d (eqb d 0x0a))
+cut (d ∷ ds) c false = rw (one-add (index_of 0x0a (d ∷ ds))) (ap (begin c) (cut ds d (eqb d 0x0a)))
 
 lines-first : (l : List ℕ) → 0 < length l → let k = index_of 0x0a l in lines l ≡ take k l ∷ lines (drop (suc k) l)
 unfolding index_of lines
@@ -69,15 +70,15 @@ lines-first [] p = absurd (omega arith)
 lines-first (c ∷ cs) p = cut cs c (eqb c 0x0a)
 
 module _ (text : List ℕ) (bits : ℕ) (from end : ℕ) {b : ℕ} {r : Bool} (p : from < length text)
-    (e : end ≡ from + index_of 0x0a (slice from (length text) text)) (n : b ≡ next bits (take (end - from) (drop from text)))
+    (e : end ≡ from + index_of 0x0a (take (length text - from) (drop from text))) (n : b ≡ next bits (take (end - from) (drop from text)))
     (w : r ≡ all_read bits (lines (drop from text))) where
   -- all lines, by the first of those that are left
   first : r ≡ (not (eqb b none) && all_read b (lines (drop (end + 1) text)))
-  unfolding all_read slice
+  unfolding all_read
   first =
       let l = drop from text in
       let k = index_of 0x0a l in
-      let f : end ≡ from + k = e ∙ rw (take-length text) in
+      let f : end ≡ from + k = e ∙ rw (take_all (length text - from) l (rw length-drop (omega arith))) in
       let here : end - from ≡ k = omega arith in
       let there : end + 1 ≡ from + suc k = omega arith in
       w ∙ ap (all_read bits) (lines-first l (rw length-drop (omega arith))) ∙ rw (drop-drop, n, here, there)

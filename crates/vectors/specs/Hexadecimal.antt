@@ -1,6 +1,6 @@
 -- Numbers in hexadecimal, as text.
 use Rattle.std.specs.Prelude.{ℕ, zero, suc, ◌+◌, ◌*◌, Bool, true, ◌&&◌, List, [], ◌∷◌, ◌++◌, ltb, take, drop}
-use Rattle.bytes.specs.Bytes.{index_of}
+use Rattle.vectors.specs.Scan.{index_of}
 
 -- the digits, 0 to 9 and a to f
 unfoldable pub digits : List ℕ

@@ -1,3 +1,4 @@
+pub mod Scan
 pub mod Messages
 pub mod Feeding
 pub mod Hexadecimal

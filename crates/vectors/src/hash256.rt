@@ -7,6 +7,7 @@ ghost use Rattle.vectors.specs.Feeding.{Fed};
 
 use crate::{lines, messages};
 use sha256::Hash;
+use std::io;
 
 // The digest of n times the word w, fed one at a time.
 pub fn repeated(w: u32, n: usize) -> [u32; 8]
@@ -57,8 +58,8 @@ pub fn in_pieces(words: &[u32], places: &[usize]) -> [u32; 8]
 }
 
 // A line for the words, named by a kind and their number.
-pub fn show(kind: &[u8], words: &[u32])
+pub fn show<R: Print>(rt: &R, kind: &[u8], words: &[u32]) -> io::Result<()>
     requires { length words.now * 32 < 2 ^ 64 }
 {
-    lines::show(kind, words.len(), &sha256::digest(words));
+    lines::show(rt, kind, words.len(), &sha256::digest(words))
 }

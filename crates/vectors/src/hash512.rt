@@ -7,6 +7,7 @@ ghost use Rattle.vectors.specs.Feeding.{Fed};
 
 use crate::{lines, messages};
 use sha512::Hash;
+use std::io;
 
 // The hash, to which nothing was fed yet, after n times the word w, fed one at a time.
 fn feed_repeated(mut h: Hash, w: u32, n: usize) -> Hash
@@ -74,10 +75,10 @@ pub fn in_pieces512(words: &[u32], places: &[usize]) -> [u32; 16]
 }
 
 // A line for the words, named by a kind and their number.
-pub fn show384(kind: &[u8], words: &[u32]) {
-    lines::show(kind, words.len(), &sha512::digest384(words));
+pub fn show384<R: Print>(rt: &R, kind: &[u8], words: &[u32]) -> io::Result<()> {
+    lines::show(rt, kind, words.len(), &sha512::digest384(words))
 }
 
-pub fn show512(kind: &[u8], words: &[u32]) {
-    lines::show(kind, words.len(), &sha512::digest512(words));
+pub fn show512<R: Print>(rt: &R, kind: &[u8], words: &[u32]) -> io::Result<()> {
+    lines::show(rt, kind, words.len(), &sha512::digest512(words))
 }
