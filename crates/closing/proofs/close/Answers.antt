@@ -8,12 +8,6 @@ use Rattle.tally.proofs.Fit.{holds_rows, rows_few, rows_fit}
 use Rattle.closing.proofs.Closing.{close-bad, close-good, accepted-report}
 use Rattle.closing.proofs.close.Goals as goal
 
-pub is_closed-requires : goal.is_closed-requires
-is_closed-requires c = (c.requires.kept.0, c.requires.kept.1, c.requires.place_in_bounds)
-
-pub refused-requires : goal.refused-requires
-refused-requires c = c.requires.kept.0.few
-
 pub returns-then-not-is_closed : goal.returns-then-not-is_closed
 returns-then-not-is_closed c =
     let x = c.args in
@@ -24,14 +18,6 @@ pub total_weight-weight-requires : goal.total_weight-weight-requires
 total_weight-weight-requires c =
     let p = c.requires.kept in
     (rows_fit p.0 p.1 p.2, omega (arith, rows_few p.0 p.1))
-
-pub end_address-end-requires : goal.end_address-end-requires
-end_address-end-requires c =
-    let p = c.requires.kept in
-    (p.0, p.1)
-
-pub overflow_cast-result : goal.overflow_cast-result
-overflow_cast-result c = let few = c.requires.kept.0.few in omega arith
 
 pub overflow_cast-result-2 : goal.overflow_cast-result-2
 overflow_cast-result-2 c = let few = c.requires.kept.0.few in omega (arith, mains-few c.args.board.now c.args.s c.requires.kept.1)

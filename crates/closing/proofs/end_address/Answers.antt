@@ -23,9 +23,6 @@ slice_bounds-put-count c = let a = address-in c.entry-e.ensures in omega arith
 pub slice_bounds-put-start : goal.slice_bounds-put-start
 slice_bounds-put-start c = let a = address-in c.entry-e.ensures in omega arith
 
-pub slice_bounds-put-end : goal.slice_bounds-put-end
-slice_bounds-put-end c = let a = address-in c.entry-e.ensures in omega arith
-
 pub put-requires : goal.put-requires
 put-requires c = omega (arith, words-few c.entry-e.ensures)
 

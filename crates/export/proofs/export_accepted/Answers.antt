@@ -9,17 +9,11 @@ use Rattle.export.proofs.Items.{length-small}
 use Rattle.export.proofs.Writing.{answered-short, answered-whole}
 use Rattle.export.proofs.export_accepted.Goals as goal
 
-pub of_text-bytes-requires : goal.of_text-bytes-requires
-of_text-bytes-requires c = rw c.wide-total.ensures c.requires
-
 pub returns-then-text-bytes : goal.returns-then-text-bytes
 returns-then-text-bytes c =
     let size : c.of_text-bytes.result ≡ length (export_text (before c.args.board.now c.args.items)) = rw c.wide-total.ensures at c.of_text-bytes.ensures in
     let a = answered-short c.args.text.now _ size c.if-text-bytes.true in
     record { fits = a.0; bytes = a.1.0; text = a.1.1 }
-
-pub put_all-requires : goal.put_all-requires
-put_all-requires c = (rw c.wide-total.ensures c.requires, rw (← c.of_text-bytes.ensures) c.if-text-bytes.false)
 
 pub overflow_cast-result : goal.overflow_cast-result
 overflow_cast-result c =

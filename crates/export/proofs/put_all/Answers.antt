@@ -2,7 +2,6 @@
 use Prim.Native.Nat.{zero-le}
 use native.Mathlib.Omega.{arith}
 use mathlib.Core.Path.{◌≡◌}
-use Rattle.text.proofs.Placed.{length-put}
 use Rattle.export.proofs.Writing.{put-begins, put-room, put_item, put-items}
 use Rattle.export.proofs.put_all.Goals as goal
 
@@ -18,9 +17,6 @@ put_next-at-requires c =
 
 pub loop-done-preserved : goal.loop-done-preserved
 loop-done-preserved c = put_item _ _ c.loop-done.invariant.1 c.loop-done-test.true c.put_next-at.ensures
-
-pub shape_of-text : goal.shape_of-text
-shape_of-text c = length-put c.loop-done.invariant.1
 
 pub returns : goal.returns
 returns c =

@@ -1,6 +1,6 @@
 -- `trustees_ok` meets its contract. Assumes nothing.
 use mathlib.Core.Path.{refl, ◌∙◌}
-use Rattle.fields.proofs.Words.{ones-few, content-within, content-word}
+use Rattle.fields.proofs.Words.{content-within, content-word}
 use borrow.Author.Tests.{eq-eqb, ne_eqb}
 use Rattle.extraction.proofs.Rules.{trustees-other, trustees-is}
 use native.Mathlib.Omega.{arith}
@@ -12,21 +12,9 @@ returns-then-c-ne-CONFIRMATION c = trustees-other c.requires c.if-c-ne-CONFIRMAT
 pub word-trustees-requires : goal.word-trustees-requires
 word-trustees-requires c = content-within c.requires
 
-pub overflow_mul-wide : goal.overflow_mul-wide
-overflow_mul-wide c = omega (arith, c.wide.ensures, ones-few c.word-trustees.result (omega arith))
-
-pub overflow_add-wide : goal.overflow_add-wide
-overflow_add-wide c = omega (arith, c.wide.ensures, ones-few c.word-trustees.result (omega arith))
-
 pub returns-then-c-wide : goal.returns-then-c-wide
 returns-then-c-wide c =
     rw (ne_eqb _ _ c.if-c-wide.true) at (trustees-is c.requires c.if-c-ne-CONFIRMATION.false c.word-trustees.result c.wide.result _ _ _ _ (omega arith) (c.word-trustees.ensures ∙ content-word c.requires 0) c.wide.ensures refl refl refl refl)
-
-pub earlier_word-most-requires : goal.earlier_word-most-requires
-earlier_word-most-requires c = c.requires.kept
-
-pub earlier_word-least-requires : goal.earlier_word-least-requires
-earlier_word-least-requires c = c.requires.kept
 
 pub returns-then-is_below : goal.returns-then-is_below
 returns-then-is_below c =

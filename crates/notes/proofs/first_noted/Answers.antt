@@ -26,14 +26,6 @@ loop-number-init c =
     let at = walk-starts (by_address-small _) c.requires.kept.0.few c.requires.kept.1 (address-small _) c.of_address.ensures c.last-number.ensures in
     (at.most, at.self, first-starts _ _ _ _ _ (addressed-only _ _ _ true c.args.at) at)
 
-pub is_noted-requires : goal.is_noted-requires
-is_noted-requires c =
-    let some : 1 ≤ c.loop-number.number = search rules in
-    record {
-      kept = c.requires.kept.0;
-      le_k = (some, c.loop-number.invariant.0, c.requires.board_in_bounds);
-    }
-
 pub behind-number-requires : goal.behind-number-requires
 behind-number-requires c = (chain-words _ _ c.requires.kept.1, omega (arith, c.loop-number.invariant.0, c.requires.kept.0.few))
 

@@ -6,12 +6,9 @@ use mathlib.Core.Path.{sym, ap, ◌∙◌}
 use Rattle.format.specs.Format.{format_of}
 use Rattle.index.specs.Kept.{before}
 use Rattle.notes.specs.Holding.{found}
-use Rattle.notes.proofs.Places.{size-some, counted}
+use Rattle.notes.proofs.Places.{counted}
 use Rattle.notes.proofs.Wrong.{first-wrong, next-note, none_left, before-next, held-begins, before-none}
 use Rattle.notes.proofs.hold.Goals as goal
-
-pub nonzero_div-total : goal.nonzero_div-total
-nonzero_div-total c = size-some _ c.size.ensures
 
 pub loop-k-init : goal.loop-k-init
 loop-k-init c =
@@ -20,26 +17,10 @@ loop-k-init c =
     let h = before a.board.now a.items in
     (zero-le, held-begins f a.notes.now h (counted _ a.notes.now c.size.ensures), before-none f a.notes.now h)
 
-pub meant-item-requires : goal.meant-item-requires
-meant-item-requires c = record { kept = (c.requires.0, c.requires.1); whole = (c.requires.2, omega (arith, c.loop-k-test.true, counted c.args.board.now c.args.notes.now c.size.ensures)) }
-
-pub judge-finding-requires : goal.judge-finding-requires
-judge-finding-requires c =
-    record { kept = (c.requires.0, c.requires.2, omega (arith, c.loop-k-test.true, counted c.args.board.now c.args.notes.now c.size.ensures)); item_value = (c.meant-item.ensures, c.loop-k.invariant.2) }
-
-pub overflow_add-k : goal.overflow_add-k
-overflow_add-k c = omega (arith, c.loop-k-test.true, counted c.args.board.now c.args.notes.now c.size.ensures, c.requires.2.few)
-
-pub overflow_cast-result : goal.overflow_cast-result
-overflow_cast-result c = omega (arith, c.loop-k-test.true, counted c.args.board.now c.args.notes.now c.size.ensures, c.requires.2.few)
-
 pub returns-in-Wrong : goal.returns-in-Wrong
 returns-in-Wrong c =
     let l = c.loop-k in
     sym (l.invariant.1 ∙ first-wrong _ _ _ l.k c.loop-k-test.true c.judge-finding.ensures (ap found c.in-Wrong.is))
-
-pub loop-k-smaller : goal.loop-k-smaller
-loop-k-smaller c = omega (arith, c.loop-k-test.true)
 
 pub loop-k-preserved : goal.loop-k-preserved
 loop-k-preserved c =

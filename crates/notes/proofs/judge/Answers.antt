@@ -21,9 +21,6 @@ entry-e-requires c =
       le_k = (omega (arith, c.if-item-eq0.false), noted-inside _ _ _ c.requires.item_value.0);
     }
 
-pub overflow_mul-at : goal.overflow_mul-at
-overflow_mul-at c = let at = placed c.requires.kept.1 c.size.ensures c.requires.kept.2 in omega (arith, at.place)
-
 pub pair_at-requires : goal.pair_at-requires
 pair_at-requires c = let at = placed c.requires.kept.1 c.size.ensures c.requires.kept.2 in at.time
 

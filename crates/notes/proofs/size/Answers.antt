@@ -1,8 +1,4 @@
 -- `size` meets its contract: the width that it adds is the board's. Assumes nothing.
-use Prim.Native.Nat.{◌+◌}
-use mathlib.Core.Path.{ap}
-use Rattle.model.specs.Format.{time_size}
-use Rattle.format.specs.declared.format.Format.{Format}
 use Rattle.format.proofs.Traits.{sizes, knows}
 use borrow.Author.Rules.{rules}
 use Rattle.notes.proofs.size.Goals as goal
@@ -12,6 +8,3 @@ overflow_add-result c =
     let b = sizes c.args.board.now in
     let k = knows c.of.ensures in
     search (rules, k.address)
-
-pub returns : goal.returns
-returns c = ap (λ (f : Format). time_size + f.address) c.of.ensures

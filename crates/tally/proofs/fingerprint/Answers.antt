@@ -52,10 +52,6 @@ words-hash-requires c =
     let f = rows_few c.requires.0 c.requires.1 in
     omega (arith, content-few c.entry.ensures)
 
-pub overflow_add-k : goal.overflow_add-k
-overflow_add-k c =
-    let f = rows_few c.requires.0 c.requires.1 in omega arith
-
 pub loop-k-preserved : goal.loop-k-preserved
 loop-k-preserved c =
     let p = c.requires in

@@ -1,21 +1,9 @@
 -- `total_weight` meets its contract. The loop's invariant: the sum and the weights of the rows that are left make the total. Assumes nothing.
 use mathlib.Core.Path.{◌≡◌}
 use Prim.Native.Nat.{◌+◌, ◌*◌}
-use native.Mathlib.Nat.{zero-add}
-use Rattle.model.specs.Counted.{total_weight}
 use Rattle.tally.proofs.Table.{weight-more, weight-all}
 use native.Mathlib.Omega.{arith}
-use borrow.Author.Rules.{rules}
 use Rattle.tally.proofs.total_weight.Goals as goal
-
-pub loop-k-init : goal.loop-k-init
-loop-k-init c = (search rules, search rules, λ xs t. zero-add (total_weight xs))
-
-pub overflow_cast-sum : goal.overflow_cast-sum
-overflow_cast-sum c = omega (arith, c.type_inv.ballots (3 * c.loop-k.k + 2))
-
-pub overflow_add-sum-in-loop-k : goal.overflow_add-sum-in-loop-k
-overflow_add-sum-in-loop-k c = omega (arith, c.type_inv.ballots (3 * c.loop-k.k + 2))
 
 pub loop-k-preserved : goal.loop-k-preserved
 loop-k-preserved c =

@@ -68,9 +68,6 @@ returns-then-item-sets c =
     let is = c.wide-cryptograms.ensures ∙ c.count.ensures in
     rw (ne_eqb _ _ c.if-item-sets.true) at (ballot-is b _ (size_is _ c.of-format.ensures).0 c.wide-cryptograms.result _ is refl)
 
-pub may_vote-requires : goal.may_vote-requires
-may_vote-requires c = at-ballot c.requires c.if-c-ne-BALLOT.false c.of-format.ensures
-
 pub returns-then-not-may_vote : goal.returns-then-not-may_vote
 returns-then-not-may_vote c =
     let b = at-ballot c.requires c.if-c-ne-BALLOT.false c.of-format.ensures in

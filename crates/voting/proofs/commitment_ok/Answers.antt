@@ -2,8 +2,6 @@
 use Prim.Native.Nat.{◌-◌}
 use mathlib.Core.Path.{◌∙◌}
 use native.Mathlib.Omega.{arith}
-use lib.Pow.{pow_pos}
-use Rattle.format.specs.Format.{format_of}
 use Rattle.format.proofs.Traits.{knows, sizes}
 use Rattle.fields.proofs.Words.{content-within, content-word}
 use Rattle.voting.proofs.Rules.{commitment-below, commitment-above, commitment-is}
@@ -23,9 +21,6 @@ overflow_sub-format c =
 
 pub word-requires : goal.word-requires
 word-requires c = content-within c.requires
-
-pub nonzero_rem-result : goal.nonzero_rem-result
-nonzero_rem-result c = omega (arith, (knows c.of-format.ensures).unit, pow_pos (format_of c.args.board.now).spare)
 
 pub returns : goal.returns
 returns c =

@@ -11,20 +11,6 @@ use Rattle.voting.proofs.cryptograms_ok.Goals as goal
 few : (k size : ℕ) → 1 ≤ k → k ≤ 256 → 1 ≤ size → size ≤ 34 → (1 ≤ k * size) × (k * size ≤ 8704)
 few k size some most low high = (words-some k size some low, words-few k size most high)
 
-pub overflow_mul-k : goal.overflow_mul-k
-overflow_mul-k c =
-    record { fits = omega (arith, few c.loop-k.k c.args.size (omega arith) (omega arith) (omega arith) (omega arith)) }
-
-pub overflow_add-sets : goal.overflow_add-sets
-overflow_add-sets c =
-    record { fits = omega (arith, few c.loop-k.k c.args.size (omega arith) (omega arith) (omega arith) (omega arith)) }
-
-pub overflow_sub-sets : goal.overflow_sub-sets
-overflow_sub-sets c = omega (arith, few c.loop-k.k c.args.size (omega arith) (omega arith) (omega arith) (omega arith))
-
-pub word-last-requires : goal.word-last-requires
-word-last-requires c = c.requires.0
-
 pub returns-then-last-ne0 : goal.returns-then-last-ne0
 returns-then-last-ne0 c =
     sym (c.loop-k.invariant.1 ∙ last-stop c.args.sets c.args.size (part c.args.item.content c.args.item.head.count c.args.board.now) c.loop-k.k _ c.loop-k-test.true c.word-last.ensures c.if-last-ne0.true)

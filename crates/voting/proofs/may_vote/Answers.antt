@@ -13,9 +13,6 @@ returns-then-not-is_own c = not_own c.requires _ c.is_own.ensures c.if-not-is_ow
 pub pair_at-time-requires : goal.pair_at-time-requires
 pair_at-time-requires c = let places = at_places c.requires.at in omega arith
 
-pub enabled-enabled-requires : goal.enabled-enabled-requires
-enabled-enabled-requires c = (c.requires.at.kept, c.requires.at.stands)
-
 pub is_within-requires : goal.is_within-requires
 is_within-requires c =
     let eight : length c.enabled-enabled.result ≡ 8 = search rules in

