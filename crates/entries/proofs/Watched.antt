@@ -19,7 +19,6 @@ use Rattle.format.specs.Format.{format_of}
 use Rattle.report.specs.declared.Report.{Report}
 use Rattle.report.specs.Reported.{reported}
 use Rattle.audit.proofs.Laws.{RefusedAs, unchanged, cleared}
-use Rattle.notes.specs.declared.Agreement.{Agreement}
 use Rattle.notes.specs.declared.Agreement.TheVariants.{NotHeld}
 use Rattle.notes.specs.Holding.{Whole, agreement_of}
 use Rattle.entries.specs.declared.watching.Held.{Held}

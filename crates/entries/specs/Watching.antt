@@ -1,6 +1,6 @@
 -- Holding a watcher's notes against a board: the outcome of what the caller passed, and what the notes say. Paper: request (vi). Assumes
 -- nothing.
-use Rattle.std.specs.Prelude.{List, length}
+use Rattle.std.specs.Prelude.{length}
 use Rattle.model.specs.Audit.{Outcome}
 use Rattle.watch.specs.Notes.{Agreement, notes_audit, agreement}
 use Rattle.format.specs.Format.{format_of}
