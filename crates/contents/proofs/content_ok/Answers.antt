@@ -1,21 +1,28 @@
 -- `content_ok` meets its contract. Assumes nothing.
 use mathlib.Core.Path.{refl}
-use borrow.Author.Tests.{not-true, not-false}
 use Rattle.format.specs.Format.{format_of}
 use Rattle.index.specs.Kept.{before, item_after}
 use Rattle.contents.proofs.Parts.{content-is}
-use mathlib.Core.Path.{ap}
-use mathlib.Core.Bool.{not}
 use Rattle.contents.proofs.content_ok.Goals as goal
 
 pub returns-then-not-config_ok : goal.returns-then-not-config_ok
 returns-then-not-config_ok c =
-    rw (not-true c.config_ok.result (ap not c.if-not-config_ok.true)) at (content-is (format_of c.args.board.now) (before c.args.board.now c.args.s.items) (item_after c.args.board.now c.args.s.items) c.config_ok.result _ _ c.config_ok.ensures refl refl)
+    let board = c.args.board.now in
+    let n = c.args.s.items in
+    rw c.if-not-config_ok.true at
+    (content-is (format_of board) (before board n) (item_after board n) c.config_ok.result _ _ c.config_ok.ensures refl refl)
 
 pub returns-then-not-voting_ok : goal.returns-then-not-voting_ok
 returns-then-not-voting_ok c =
-    rw (not-false c.config_ok.result (ap not c.if-not-config_ok.false), not-true c.voting_ok.result (ap not c.if-not-voting_ok.true)) at (content-is (format_of c.args.board.now) (before c.args.board.now c.args.s.items) (item_after c.args.board.now c.args.s.items) c.config_ok.result c.voting_ok.result _ c.config_ok.ensures c.voting_ok.ensures refl)
+    let board = c.args.board.now in
+    let n = c.args.s.items in
+    rw (c.if-not-config_ok.false, c.if-not-voting_ok.true) at
+    (content-is (format_of board) (before board n) (item_after board n) c.config_ok.result c.voting_ok.result _ c.config_ok.ensures c.voting_ok.ensures refl)
 
 pub returns : goal.returns
 returns c =
-    rw (not-false c.config_ok.result (ap not c.if-not-config_ok.false), not-false c.voting_ok.result (ap not c.if-not-voting_ok.false)) at (content-is (format_of c.args.board.now) (before c.args.board.now c.args.s.items) (item_after c.args.board.now c.args.s.items) c.config_ok.result c.voting_ok.result c.extraction_ok.result c.config_ok.ensures c.voting_ok.ensures c.extraction_ok.ensures)
+    let board = c.args.board.now in
+    let n = c.args.s.items in
+    rw (c.if-not-config_ok.false, c.if-not-voting_ok.false) at
+    (content-is (format_of board) (before board n) (item_after board n) c.config_ok.result c.voting_ok.result c.extraction_ok.result
+    c.config_ok.ensures c.voting_ok.ensures c.extraction_ok.ensures)

@@ -11,12 +11,16 @@ pair_at-requires c = (stands c.requires.0).time
 
 pub put_numbers-strings-requires : goal.put_numbers-strings-requires
 put_numbers-strings-requires c =
-    let all : Room c.args.out.now c.args.at (numbers_text c.args.item.head.code c.pair_at.result ∷ strings_text (item_on c.args.board.now c.args.item.place) ∷ []) = room (line-parts c.requires.0 c.pair_at.ensures) c.requires.1 in
+    let x = c.args in
+    let texts = numbers_text x.item.head.code c.pair_at.result ∷ strings_text (item_on x.board.now x.item.place) ∷ [] in
+    let all : Room x.out.now x.at texts = room (line-parts c.requires.0 c.pair_at.ensures) c.requires.1 in
     first all
 
 pub put_strings-requires : goal.put_strings-requires
 put_strings-requires c =
-    let all : Room c.args.out.now c.args.at (numbers_text c.args.item.head.code c.pair_at.result ∷ strings_text (item_on c.args.board.now c.args.item.place) ∷ []) = room (line-parts c.requires.0 c.pair_at.ensures) c.requires.1 in
+    let x = c.args in
+    let texts = numbers_text x.item.head.code c.pair_at.result ∷ strings_text (item_on x.board.now x.item.place) ∷ [] in
+    let all : Room x.out.now x.at texts = room (line-parts c.requires.0 c.pair_at.ensures) c.requires.1 in
     (c.requires.0, first (rest all c.put_numbers-strings.ensures))
 
 pub returns : goal.returns
