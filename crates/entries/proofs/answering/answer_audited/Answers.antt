@@ -8,7 +8,8 @@ pub answer_accepted-requires : goal.answer_accepted-requires
 answer_accepted-requires c =
     let s = c.args in
     let r = c.audit-r in (
-      accepted-kept s.board.now s.verdicts.now s.roll.now s.index.now s.ballots.now r.result (r.ensures.answer, (r.ensures.index, r.ensures.ballots)) c.in-Accepted.is,
+      accepted-kept s.board.now s.verdicts.now s.roll.now s.index.now s.ballots.now r.result
+          (r.ensures.answer, (r.ensures.index, r.ensures.ballots)) c.in-Accepted.is,
       c.requires,
     )
 
@@ -16,7 +17,8 @@ pub returns-in-Accepted-clause-answers : goal.returns-in-Accepted-clause-answers
 returns-in-Accepted-clause-answers c =
     let s = c.args in
     let r = c.audit-r in
-    let accepts = accepted-outcome s.board.now s.verdicts.now s.roll.now s.index.now s.ballots.now r.result (r.ensures.answer, (r.ensures.index, r.ensures.ballots)) c.in-Accepted.is in
+    let accepts = accepted-outcome s.board.now s.verdicts.now s.roll.now s.index.now s.ballots.now r.result
+    (r.ensures.answer, (r.ensures.index, r.ensures.ballots)) c.in-Accepted.is in
     answers-accepted _ s.receipts.now s.answers.now accepts c.answer_accepted.ensures
 
 pub returns-in_default-clause-answers : goal.returns-in_default-clause-answers
@@ -24,4 +26,5 @@ returns-in_default-clause-answers c =
     let s = c.args in
     let r = c.audit-r in
     left-refused _ _
-    (refused-outcome s.board.now s.verdicts.now s.roll.now s.index.now s.ballots.now r.result (r.ensures.answer, (r.ensures.index, r.ensures.ballots)) c.in_default.is)
+    (refused-outcome s.board.now s.verdicts.now s.roll.now s.index.now s.ballots.now r.result
+    (r.ensures.answer, (r.ensures.index, r.ensures.ballots)) c.in_default.is)

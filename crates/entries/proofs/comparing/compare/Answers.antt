@@ -8,14 +8,16 @@ pub compare_later-requires : goal.compare_later-requires
 compare_later-requires c =
     let s = c.args in
     let r = c.audit-r in
-    accepted-board s.kept.now s.kept_verdicts.now s.kept_roll.now s.kept_index.now s.kept_ballots.now r.result (r.ensures.answer, (r.ensures.index, r.ensures.ballots)) c.in-Accepted.is
+    accepted-board s.kept.now s.kept_verdicts.now s.kept_roll.now s.kept_index.now s.kept_ballots.now r.result
+    (r.ensures.answer, (r.ensures.index, r.ensures.ballots)) c.in-Accepted.is
 
 pub returns-in-Refused : goal.returns-in-Refused
 returns-in-Refused c =
     let s = c.args in
     let r = c.audit-r in
     let refused =
-    refused-outcome s.kept.now s.kept_verdicts.now s.kept_roll.now s.kept_index.now s.kept_ballots.now r.result (r.ensures.answer, (r.ensures.index, r.ensures.ballots)) c.in-Refused.is in record {
+    refused-outcome s.kept.now s.kept_verdicts.now s.kept_roll.now s.kept_index.now s.kept_ballots.now r.result
+    (r.ensures.answer, (r.ensures.index, r.ensures.ballots)) c.in-Refused.is in record {
       answer = kept-refused _ _ refused;
       kept_index = r.ensures.index;
       kept_ballots = r.ensures.ballots;
@@ -28,7 +30,8 @@ returns-in-Accepted c =
     let s = c.args in
     let r = c.audit-r in
     let accepts =
-    accepted-outcome s.kept.now s.kept_verdicts.now s.kept_roll.now s.kept_index.now s.kept_ballots.now r.result (r.ensures.answer, (r.ensures.index, r.ensures.ballots)) c.in-Accepted.is in
+    accepted-outcome s.kept.now s.kept_verdicts.now s.kept_roll.now s.kept_index.now s.kept_ballots.now r.result
+    (r.ensures.answer, (r.ensures.index, r.ensures.ballots)) c.in-Accepted.is in
     let later = c.compare_later.ensures in record {
       answer = kept-accepted accepts _ _ later.answer;
       kept_index = r.ensures.index;

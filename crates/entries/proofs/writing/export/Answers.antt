@@ -7,13 +7,15 @@ pub export_accepted-written-requires : goal.export_accepted-written-requires
 export_accepted-written-requires c =
     let s = c.args in
     let r = c.audit-report in
-    accepted-kept s.board.now s.verdicts.now s.roll.now s.index.now s.ballots.now r.result (r.ensures.answer, (r.ensures.index, r.ensures.ballots)) c.in-Accepted.is
+    accepted-kept s.board.now s.verdicts.now s.roll.now s.index.now s.ballots.now r.result
+    (r.ensures.answer, (r.ensures.index, r.ensures.ballots)) c.in-Accepted.is
 
 pub returns-then-written : goal.returns-then-written
 returns-then-written c =
     let s = c.args in
     let r = c.audit-report in
-    let accepts = accepted-outcome s.board.now s.verdicts.now s.roll.now s.index.now s.ballots.now r.result (r.ensures.answer, (r.ensures.index, r.ensures.ballots)) c.in-Accepted.is in
+    let accepts = accepted-outcome s.board.now s.verdicts.now s.roll.now s.index.now s.ballots.now r.result
+    (r.ensures.answer, (r.ensures.index, r.ensures.ballots)) c.in-Accepted.is in
     let w = c.export_accepted-written.ensures in
     let (report, bytes, text) = leaves-fit _ s.text.now _ accepts w.fits w.bytes w.text r.ensures.answer c.if-written.true in
     record { report = report; bytes = bytes; index = r.ensures.index; ballots = r.ensures.ballots; text = text }
@@ -22,7 +24,8 @@ pub returns-in-Accepted : goal.returns-in-Accepted
 returns-in-Accepted c =
     let s = c.args in
     let r = c.audit-report in
-    let accepts = accepted-outcome s.board.now s.verdicts.now s.roll.now s.index.now s.ballots.now r.result (r.ensures.answer, (r.ensures.index, r.ensures.ballots)) c.in-Accepted.is in
+    let accepts = accepted-outcome s.board.now s.verdicts.now s.roll.now s.index.now s.ballots.now r.result
+    (r.ensures.answer, (r.ensures.index, r.ensures.ballots)) c.in-Accepted.is in
     let w = c.export_accepted-written.ensures in
     let refused = c.refused.ensures s.board.now in
     let (report, bytes, text) = leaves-short _ s.text.now _ accepts w.fits w.bytes w.text refused c.if-written.false in
@@ -32,6 +35,7 @@ pub returns : goal.returns
 returns c =
     let s = c.args in
     let r = c.audit-report in
-    let refused = refused-outcome s.board.now s.verdicts.now s.roll.now s.index.now s.ballots.now r.result (r.ensures.answer, (r.ensures.index, r.ensures.ballots)) c.in_default.is in
+    let refused = refused-outcome s.board.now s.verdicts.now s.roll.now s.index.now s.ballots.now r.result
+    (r.ensures.answer, (r.ensures.index, r.ensures.ballots)) c.in_default.is in
     let (report, bytes, text) = leaves-refused _ s.text.now _ r.ensures.answer refused in
     record { report = report; bytes = bytes; index = r.ensures.index; ballots = r.ensures.ballots; text = text }
