@@ -19,7 +19,7 @@ command:
 	cli/make
 
 program:
-	rt check auditor
+	dist/build auditor
 	dist/link
 
 # Installs the command, its manual page and its completion for bash, below DESTDIR and PREFIX. What is built already is not built again.
@@ -28,7 +28,8 @@ install: target/bin/tirfolma
 	install -D -m 644 target/$(manual) "$$DESTDIR$$PREFIX/$(manual)"
 	install -D -m 644 target/$(completion) "$$DESTDIR$$PREFIX/$(completion)"
 
-target/bin/tirfolma: $(shell find cli/make cli/Cargo.toml cli/Cargo.lock cli/build cli/src include crates.txt crates -type f)
+target/bin/tirfolma: $(shell find cli/make cli/Cargo.toml cli/Cargo.lock cli/build cli/src include dist/build crates.txt crates \
+	-path 'crates/*/out' -prune -o -type f -print)
 	cli/make
 
 # Removes what install puts there, with the same DESTDIR and PREFIX.
@@ -45,4 +46,4 @@ dist:
 
 # Removes all that was built, proofs too.
 clean:
-	rm -rf target cli/target tests/reference/target
+	rm -rf target cli/target tests/reference/target crates/*/out

@@ -1,4 +1,4 @@
-/* The board auditor for programs in C, C++ and Rust: link libabi.a, which `rt staticlib abi` builds for x86-64 Linux.
+/* The board auditor for programs in C, C++ and Rust: link libabi.a, which `dist/build abi` builds for x86-64-v2 Linux.
 
    Each function is proved, in crates/abi, to give for any words and any lengths what this page says. What no proof can see is the caller:
    - A buffer is a pointer to 32-bit words, aligned as uint32_t, and their number. The words are there, and are initialised. Where the number

@@ -3,11 +3,12 @@
 
 use std::fmt::Write;
 
-/// What a parameter is in Rust: the words of a slice behind a pointer and their number, or a number by itself.
+/// What a parameter is in Rust: the words or bytes of a slice behind a pointer and their number, or a number by itself.
 #[derive(Clone, Copy, PartialEq)]
 enum Kind {
     Read,
     Written,
+    Bytes,
     Number,
 }
 
@@ -43,6 +44,7 @@ impl Kind {
         match self {
             Kind::Read => "*const u32",
             Kind::Written => "*mut u32",
+            Kind::Bytes => "*mut u8",
             Kind::Number => "usize",
         }
     }
@@ -59,22 +61,23 @@ impl Function<'_> {
         format!("    pub fn {}({}) -> bool;\n", self.name, parameters.join(", "))
     }
 
-    /// A pointer and the number of its words behind it are a slice. What Rust asks of slices is what the header asks of buffers: words that
-    /// are there, and none written that is also read or written through another.
+    /// A pointer and the number of its words or bytes behind it are a slice. What Rust asks of slices is what the header asks of buffers: words
+    /// that are there, and none written that is also read or written through another.
     fn over_slices(&self) -> Result<String, String> {
         let (mut parameters, mut arguments) = (Vec::new(), Vec::new());
         let mut rest = self.parameters.iter();
         while let Some(&(name, kind)) = rest.next() {
-            let (slice, pointer) = match kind {
-                Kind::Read => ("&[u32]", "as_ptr"),
-                Kind::Written => ("&mut [u32]", "as_mut_ptr"),
+            let (slice, pointer, unit) = match kind {
+                Kind::Read => ("&[u32]", "as_ptr", "_words"),
+                Kind::Written => ("&mut [u32]", "as_mut_ptr", "_words"),
+                Kind::Bytes => ("&mut [u8]", "as_mut_ptr", "_bytes"),
                 Kind::Number => {
                     parameters.push(format!("{name}: usize"));
                     arguments.push(name.to_string());
                     continue;
                 }
             };
-            let is_length = |next: &&(&str, Kind)| next.1 == Kind::Number && next.0.ends_with("_words");
+            let is_length = |next: &&(&str, Kind)| next.1 == Kind::Number && next.0.ends_with(unit);
             rest.next().filter(is_length).ok_or(format!("{name} has no length"))?;
             parameters.push(format!("{name}: {slice}"));
             arguments.push(format!("{name}.{pointer}(), {name}.len()"));
@@ -194,7 +197,13 @@ fn function(part: &str) -> Result<Function<'_>, String> {
 
 fn parameter(text: &str) -> Result<(&str, Kind), String> {
     let text = text.trim();
-    for (c, kind) in [("const uint32_t *", Kind::Read), ("uint32_t *", Kind::Written), ("size_t ", Kind::Number)] {
+    let kinds = [
+        ("const uint32_t *", Kind::Read),
+        ("uint32_t *", Kind::Written),
+        ("uint8_t *", Kind::Bytes),
+        ("size_t ", Kind::Number),
+    ];
+    for (c, kind) in kinds {
         if let Some(name) = text.strip_prefix(c) {
             if name.bytes().all(|b| b == b'_' || b.is_ascii_lowercase()) {
                 return Ok((name, kind));

@@ -1,4 +1,4 @@
-//! Makes the library's functions from include/tirfolma.h, links the static library (TIRFOLMA_LIB, or where `rt staticlib abi` writes it),
+//! Makes the library's functions from include/tirfolma.h, links the static library (TIRFOLMA_LIB, or where `dist/build abi` writes it),
 //! and takes down the commit and the kit's id (TIRFOLMA_COMMIT, TIRFOLMA_KIT) for --version.
 use std::env;
 use std::fs;

@@ -44,6 +44,7 @@ fn in_c(declared: &Declared) -> String {
         ("bool", size_of::<bool>()),
         ("const uint32_t *", size_of::<*const u32>()),
         ("uint32_t *", size_of::<*mut u32>()),
+        ("uint8_t *", size_of::<*mut u8>()),
     ] {
         c += &format!("_Static_assert(sizeof({kind}) == {size}, \"{kind}\");\n");
     }
@@ -62,6 +63,7 @@ fn c_type(kind: &str) -> &'static str {
     match kind {
         "*const u32" => "const uint32_t *",
         "*mut u32" => "uint32_t *",
+        "*mut u8" => "uint8_t *",
         "usize" => "size_t",
         other => panic!("no type of the header: {other}"),
     }
@@ -86,7 +88,7 @@ fn compiles(header: &str, c: &str) -> Result<(), String> {
 #[test]
 fn the_compiler_agrees() {
     let declared = built();
-    assert!(declared.constants.len() > 30 && declared.functions.len() == 6);
+    assert!(declared.constants.len() > 30 && declared.functions.len() == 7);
     compiles(&header(), &in_c(&declared)).unwrap_or_else(|why| panic!("{why}"));
 }
 
@@ -134,6 +136,7 @@ fn parameters_are_in_the_order_of_the_calls() {
         ),
         ("tirfolma_notes", format!("{board} notes note_words {tables} answer answer_words")),
         ("tirfolma_plan", "board board_words answer answer_words".to_string()),
+        ("tirfolma_export", format!("{board} {tables} text text_bytes answer answer_words")),
     ];
     let declared = built();
     let found: Vec<(&str, String)> = declared
@@ -145,17 +148,19 @@ fn parameters_are_in_the_order_of_the_calls() {
         })
         .collect();
     assert_eq!(found, right);
-    // What is only read is the boards, the receipts and the notes; a number follows each pointer.
+    // What is only read is the boards, the receipts and the notes; bytes are the text alone; a number follows each pointer.
     for (name, parameters) in &declared.functions {
         for (at, (parameter, kind)) in parameters.iter().enumerate() {
             let is_read = ["board", "kept", "later", "receipts", "notes"].contains(&parameter.as_str())
                 || parameter.ends_with("verdicts")
                 || parameter.ends_with("roll");
-            let is_number = parameter.ends_with("_words") || parameter.ends_with("_number");
+            let is_number = ["_words", "_bytes", "_number"].iter().any(|end| parameter.ends_with(end));
             let right = if is_number {
                 "usize"
             } else if is_read {
                 "*const u32"
+            } else if parameter == "text" {
+                "*mut u8"
             } else {
                 "*mut u32"
             };
@@ -165,7 +170,7 @@ fn parameters_are_in_the_order_of_the_calls() {
     }
 }
 
-/// What the build script made of the header, read back: its constants are evaluated by the compiler of the test.
+/// What the build script made of the header, read back. Its constants are evaluated here; a name that has no value would stop the compiler.
 fn made(text: &str) -> Result<Declared, String> {
     let rust = build::rust(text)?;
     let line = |start: &str| rust.lines().find(|line| line.starts_with(start)).expect("a list").to_string();
@@ -175,9 +180,10 @@ fn made(text: &str) -> Result<Declared, String> {
         let value = line(&format!("pub const {name}: usize = "));
         let value = value.split(" = ").nth(1).and_then(|value| value.strip_suffix(';')).expect("a value");
         let known = |factor: &str| constants.iter().find(|known| known.0 == factor).map(|known| known.1);
-        let number = |factor: &str| -> u64 { factor.parse().ok().or(known(factor)).expect("a number") };
-        let sum = value.split(" + ").map(|term| term.split(" * ").map(number).product::<u64>()).sum();
-        constants.push((name, sum));
+        let number = |factor: &str| factor.parse().ok().or(known(factor)).ok_or(format!("{factor} has no value"));
+        let sum: Result<u64, String> =
+            value.split(" + ").map(|term| term.split(" * ").map(number).product::<Result<u64, String>>()).sum();
+        constants.push((name, sum?));
     }
     let mut functions = Vec::new();
     for part in line("pub const FUNCTIONS").split("(\"tirfolma_").skip(1) {
@@ -246,6 +252,10 @@ fn mistakes() -> Vec<(&'static str, &'static str, &'static str)> {
             "uint32_t *receipts, size_t receipt_words",
         ),
         ("notes for writing", "const uint32_t *notes, size_t note_words", "uint32_t *notes, size_t note_words"),
+        ("words for bytes", "uint8_t *text, size_t text_bytes", "uint32_t *text, size_t text_words"),
+        ("bytes for reading", "uint8_t *text, size_t text_bytes", "const uint8_t *text, size_t text_bytes"),
+        ("bytes counted in words", "uint8_t *text, size_t text_bytes", "uint8_t *text, size_t text_words"),
+        ("an export's bytes", "(8 * TIRFOLMA_BOARD_WORDS)", "(9 * TIRFOLMA_BOARD_WORDS)"),
         ("a plan's words", "TIRFOLMA_PLAN_WORDS 4", "TIRFOLMA_PLAN_WORDS 3"),
         ("a place in a plan", "TIRFOLMA_PLAN_BLOCKS = 3", "TIRFOLMA_PLAN_BLOCKS = 2"),
         ("a note's words", "TIRFOLMA_NOTE_WORDS_384 14", "TIRFOLMA_NOTE_WORDS_384 12"),

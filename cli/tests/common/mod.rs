@@ -167,7 +167,7 @@ pub fn root() -> PathBuf {
 pub fn auditor(folder: &Path) -> String {
     let program = std::env::var_os("TIRFOLMA_PROGRAM").map_or(root().join("target/bin/auditor"), PathBuf::from);
     let program = program.canonicalize().unwrap_or_else(|e| {
-        panic!("{}: {e}; 'rt check auditor' builds it, or TIRFOLMA_PROGRAM names it", program.display())
+        panic!("{}: {e}; 'dist/build auditor' builds it, or TIRFOLMA_PROGRAM names it", program.display())
     });
     let mut command = Command::new(program);
     command.current_dir(folder);

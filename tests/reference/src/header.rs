@@ -71,6 +71,9 @@ const NAMES: &[(&str, usize)] = &[
     ("TIRFOLMA_PLAN_ITEMS", plan_answer::ITEMS),
     ("TIRFOLMA_PLAN_INDEX_WORDS", plan_answer::INDEX_WORDS),
     ("TIRFOLMA_PLAN_BLOCKS", plan_answer::BLOCKS),
+    ("TIRFOLMA_EXPORT_ANSWER_WORDS", EXPORT_ANSWER),
+    ("TIRFOLMA_EXPORT_LENGTH", export_answer::LENGTH),
+    ("TIRFOLMA_EXPORT_BYTES", EXPORT_BYTES),
 ];
 
 /// Against a second #include. It alone has no value.

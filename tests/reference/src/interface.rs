@@ -6,6 +6,7 @@
 use crate::ancestry::Ancestry;
 use crate::audit::Report;
 use crate::compare::{Comparison, Side};
+use crate::format::MAX_WORDS;
 use crate::notes::{Agreement, Reason};
 use crate::planning::Planned;
 
@@ -17,6 +18,10 @@ pub const ANCESTRY_ANSWER: usize = 2;
 /// The audit's answer, and two words more.
 pub const NOTES_ANSWER: usize = 24;
 pub const PLAN_ANSWER: usize = 4;
+/// The audit's answer, and one word more.
+pub const EXPORT_ANSWER: usize = 23;
+/// Bytes of a text buffer for the export of any board.
+pub const EXPORT_BYTES: usize = 8 * MAX_WORDS;
 
 /// Where the words of the audit's answer stand.
 pub mod audit_answer {
@@ -68,6 +73,11 @@ pub mod plan_answer {
     pub const ITEMS: usize = 1;
     pub const INDEX_WORDS: usize = 2;
     pub const BLOCKS: usize = 3;
+}
+
+/// Where the word of the answer to an export stands that the audit's does not have.
+pub mod export_answer {
+    pub const LENGTH: usize = 22;
 }
 
 /// Whether notes agree, and why the first that does not disagrees.
