@@ -7,7 +7,9 @@ What it turns:
 - a word of camel case, `mainItem`, or a part of one between dashes, `mainItems-snoc`: `main_item`, `main_items-snoc`;
 - `getD` and `get_d` in names of laws: `get_or`, as the library's function is called now;
 - the crate `sha2`, whose name is a library's of the kit: `sha2_common`;
-- a lemma that would then have the name of the definition that it is about: `_lem` behind it (LEMMAS).
+- a lemma that would then have the name of the definition that it is about: `_lem` behind it (LEMMAS);
+- the choice `if b then x else y` of our own, whose name is an operator of the library now, which differs from it in how far it unfolds:
+  `if b then x otherwise y`.
 Functions, fields and strings of src/ are in snake case and stay; types and modules, in upper camel case, stay.
 """
 
@@ -23,7 +25,7 @@ KEEP = re.compile(r"^(not_T|is_Within|row_Line|x[0-9A-F]+)$")
 LEMMAS = [
     ("plan/proofs/Looking.antt", "blocks_at", "blocks_at_lem"),
     ("planning/proofs/Related.antt", "left_over", "left_over_lem"),
-    ("state/proofs/Next.antt", "round_number", "round_number_lem"),
+    ("state/proofs/Next.antt", "round_number", "round-number"),
     ("tally/proofs/Table.antt", "row_word", "row_word_lem"),
     ("model/proofs/Listing.antt", "too_large", "too_large_lem"),
     ("entries/proofs/Listed.antt", "too_large", "too_large_lem"),
@@ -57,6 +59,20 @@ def crate(t):
     return re.sub(r"(?<![\w:.])sha2::", "sha2_common::", t)
 
 
+ELSE = re.compile(r"(?<![\w.'-])else(?![\w'-])")
+CHOICE = re.compile(r"(\bif\b.*\bthen\b.*)" + ELSE.pattern)
+
+
+def choice(line, is_antt):
+    line = line.replace("if◌then◌else◌", "if◌then◌otherwise◌")
+    code, dash, comment = line.partition("--" if is_antt else "//")
+    return (ELSE.sub("otherwise", code) if is_antt else CHOICE.sub(r"\1otherwise", code)) + dash + comment
+
+
+def choices(t, is_antt):
+    return "\n".join(choice(line, is_antt) for line in t.split("\n"))
+
+
 def main():
     if not os.path.isdir("crates"):
         sys.exit("respell: run it at the top of the repository")
@@ -77,7 +93,7 @@ def main():
             for file, lemma, now in LEMMAS:
                 if path == os.path.join("crates", file):
                     t = re.sub(rf"(?<![\w'-]){lemma}(?![\w'-])", now, t)
-            t = crate(text(t))
+            t = choices(crate(text(t)), name.endswith(".antt"))
             if t != old:
                 with open(path, "w", encoding="utf-8") as f:
                     f.write(t)

@@ -6,7 +6,7 @@ use mathlib.Core.Bool.{true, false}
 use mathlib.Core.List.{List, []}
 use lib.ListN.{length, replicate, length-replicate}
 use borrow.Author.Tests.{lt-ltb, le-ltb}
-use Rattle.model.specs.Lists.{if◌then◌else◌}
+use Rattle.model.specs.Lists.{if◌then◌otherwise◌}
 use Rattle.model.specs.Refusal.{no_fault, too_large, short_table, empty_board, bad_roll}
 use Rattle.model.specs.Roll.{is_bad_roll, on_roll}
 use Rattle.model.specs.Audit.{Outcome, unread, refused, accepted, audit, items, item_limit, word_limit, index_need, ballot_need, is_empty}
@@ -56,15 +56,15 @@ module _ (board verdicts roll index ballots : List ℕ) where
   -- ---- 1 and 2
 
   pub audit-large : word_limit < length board → outcome ≡ unread too_large
-  unfolding audit if◌then◌else◌
+  unfolding audit if◌then◌otherwise◌
   audit-large l = rw (lt-ltb _ _ l)
 
   pub audit-short-index : length board ≤ word_limit → length index < index_need → outcome ≡ unread short_table
-  unfolding audit if◌then◌else◌
+  unfolding audit if◌then◌otherwise◌
   audit-short-index l i = rw (le-ltb _ _ l, lt-ltb _ _ i)
 
   pub audit-short-ballots : length board ≤ word_limit → index_need ≤ length index → length ballots < ballot_need → outcome ≡ unread short_table
-  unfolding audit if◌then◌else◌
+  unfolding audit if◌then◌otherwise◌
   audit-short-ballots l i b = rw (le-ltb _ _ l, le-ltb _ _ i, lt-ltb _ _ b)
 
   -- they change no table
@@ -85,7 +85,7 @@ module _ (board verdicts roll index ballots : List ℕ) where
     -- ---- 20
 
     audit-roll : is_bad_roll roll ≡ true → outcome ≡ refused bad_roll 0
-    unfolding audit if◌then◌else◌
+    unfolding audit if◌then◌otherwise◌
     audit-roll q = rw (le-ltb _ _ sized.few_words, le-ltb _ _ sized.wide, le-ltb _ _ sized.roomy, q)
 
     pub audited-roll : is_bad_roll roll ≡ true → (r : Report) → reported r ≡ report_of (format_of board) (refused bad_roll 0) → {i b : List ℕ}
@@ -97,7 +97,7 @@ module _ (board verdicts roll index ballots : List ℕ) where
     -- ---- 3
 
     audit-empty : is_empty board ≡ true → outcome ≡ refused empty_board 0
-    unfolding audit if◌then◌else◌
+    unfolding audit if◌then◌otherwise◌
     audit-empty q = rw (le-ltb _ _ sized.few_words, le-ltb _ _ sized.wide, le-ltb _ _ sized.roomy, good, q)
 
     pub audited-empty : is_empty board ≡ true → (r : Report) → reported r ≡ report_of (format_of board) (refused empty_board 0) → {i b : List ℕ}
@@ -108,7 +108,7 @@ module _ (board verdicts roll index ballots : List ℕ) where
     -- ---- the items
 
     audit-items : is_empty board ≡ false → outcome ≡ answer
-    unfolding audit if◌then◌else◌
+    unfolding audit if◌then◌otherwise◌
     audit-items q = rw (le-ltb _ _ sized.few_words, le-ltb _ _ sized.wide, le-ltb _ _ sized.roomy, good, q)
 
     cleared : (o : Outcome) (i b : List ℕ) → Holds board o i b → (r : Report) → reported r ≡ report_of (format_of board) o

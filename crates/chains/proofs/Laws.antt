@@ -12,7 +12,7 @@ use lib.ListN.{length, get_or, set, length-set, length-replicate, get_or-replica
 use lib.Seq.{get_or-set_same, get_or-set_other}
 use lib.Dec.{eqb}
 use borrow.Author.Tests.{eqb-true, eqb-false}
-use Rattle.model.specs.Lists.{if◌then◌else◌}
+use Rattle.model.specs.Lists.{if◌then◌otherwise◌}
 use Rattle.model.specs.Audit.{item_limit}
 use Rattle.model.proofs.Tests.{by-test}
 use Rattle.chains.specs.Chain.{buckets, chain_words, linked, chain, last_in}
@@ -47,11 +47,11 @@ module _ (bucket : ℕ → ℕ) where
 
   -- item n + 1 is in the bucket, or is not
   pub last_in-here : (b n : ℕ) → eqb (bucket (suc n)) b ≡ true → last_in bucket b (suc n) ≡ suc n
-  unfolding last_in if◌then◌else◌
+  unfolding last_in if◌then◌otherwise◌
   last_in-here b n q = rw q
 
   pub last_in-past : (b n : ℕ) → eqb (bucket (suc n)) b ≡ false → last_in bucket b (suc n) ≡ last_in bucket b n
-  unfolding last_in if◌then◌else◌
+  unfolding last_in if◌then◌otherwise◌
   last_in-past b n q = rw q
 
   pub last_in-le : (b n : ℕ) → last_in bucket b n ≤ n

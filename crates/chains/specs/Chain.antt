@@ -2,7 +2,7 @@
 -- items of one bucket alone. A chain table has a word for each bucket, then a word for each item number from 0 on. Not of the paper: it
 -- changes no answer. Assumes nothing.
 use Rattle.std.specs.Prelude.{ℕ, zero, suc, ◌+◌, List, get_or, replicate, set, eqb}
-use Rattle.model.specs.Lists.{if◌then◌else◌}
+use Rattle.model.specs.Lists.{if◌then◌otherwise◌}
 
 abbrev pub buckets : ℕ
 buckets = 2048
@@ -22,6 +22,6 @@ chain bucket (suc n) = linked (chain bucket n) (bucket (suc n)) (suc n)
 
 -- the last of the first n items in bucket b; 0 where there is none
 unfoldable pub last_in : (ℕ → ℕ) → ℕ → ℕ → ℕ
-unfolding if◌then◌else◌
+unfolding if◌then◌otherwise◌
 last_in bucket b zero = 0
-last_in bucket b (suc n) = if eqb (bucket (suc n)) b then suc n else last_in bucket b n
+last_in bucket b (suc n) = if eqb (bucket (suc n)) b then suc n otherwise last_in bucket b n

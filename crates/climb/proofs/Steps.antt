@@ -9,7 +9,7 @@ use mathlib.Core.List.{List, [], ◌∷◌}
 use lib.ListN.{length, set}
 use lib.Seq.{sets}
 use borrow.Author.Tests.{eq-eqb, ne_eqb}
-use Rattle.model.specs.Lists.{if◌then◌else◌}
+use Rattle.model.specs.Lists.{if◌then◌otherwise◌}
 use Rattle.model.specs.History.{History, entry}
 use Rattle.model.specs.Ancestry.{up_to, ancestry}
 use Rattle.index.specs.declared.Known.{Known}
@@ -27,7 +27,7 @@ module _ {board index : List ℕ} {n : ℕ} (kept : Kept board index n) where
 
   -- as many steps as the item's number are enough: more change nothing
   enough : (s a b k : ℕ) → a ≤ s → k ≤ a → k ≤ b → 1 ≤ k → k ≤ n → up_to a h k ≡ up_to b h k
-  unfolding up_to if◌then◌else◌
+  unfolding up_to if◌then◌otherwise◌
   enough zero a b k la ka kb o l = absurd (omega arith)
   enough (suc s) zero b k la ka kb o l = absurd (omega arith)
   enough (suc s) (suc a) zero k la ka kb o l = absurd (omega arith)
@@ -43,11 +43,11 @@ module _ {board index : List ℕ} {n : ℕ} (kept : Kept board index n) where
     one_more = omega arith
 
     pub ancestry-ends : up k ≡ k → ancestry h k ≡ k ∷ []
-    unfolding ancestry up_to if◌then◌else◌
+    unfolding ancestry up_to if◌then◌otherwise◌
     ancestry-ends own = ap (λ (steps : ℕ). up_to steps h k) one_more ∙ rw (eq-eqb (up k) k own)
 
     pub ancestry-climbs : up k ≢ k → ancestry h k ≡ k ∷ ancestry h (up k)
-    unfolding ancestry up_to if◌then◌else◌
+    unfolding ancestry up_to if◌then◌otherwise◌
     ancestry-climbs other =
         let bound = entry-parent-bound kept k some few in
         ap (λ (steps : ℕ). up_to steps h k) one_more

@@ -8,7 +8,7 @@ use lib.ListN.{length, take, drop, replicate, length-take, length-drop, length-r
 use lib.Seq.{sets}
 use lib.Dec.{eqb}
 use borrow.Author.Tests.{not-true, not-false}
-use Rattle.model.specs.Lists.{if◌then◌else◌, part}
+use Rattle.model.specs.Lists.{if◌then◌otherwise◌, part}
 use Rattle.model.specs.Refusal.{bad_closing}
 use Rattle.model.specs.Item.{item_length}
 use Rattle.model.specs.History.{History, Entry, end_address}
@@ -90,11 +90,11 @@ module _ (board verdicts : List ℕ) (s : State) where
   h = before board s.items
 
   pub close-bad : closing_ok board verdicts h s.place ≡ false → closing (closing_ok board verdicts h s.place) h ≡ refused bad_closing s.items
-  unfolding closing if◌then◌else◌
+  unfolding closing if◌then◌otherwise◌
   close-bad q = rw (q, length-history (format_of board) board s.items)
 
   pub close-good : closing_ok board verdicts h s.place ≡ true → closing (closing_ok board verdicts h s.place) h ≡ accepted h
-  unfolding closing if◌then◌else◌
+  unfolding closing if◌then◌otherwise◌
   close-good q = rw q
 
 pub accepted-report : {board : List ℕ} {s : State} → Stands board s → (weight : ℕ) (end : List ℕ)

@@ -6,7 +6,7 @@ use mathlib.Core.Path.{◌≡◌, refl, sym, ap, subst}
 use mathlib.Core.List.{List, [], ◌∷◌, ◌++◌}
 use lib.ListN.{length, replicate, length-replicate, length-append}
 use lib.Dec.{lit≤}
-use Rattle.model.specs.Lists.{if◌then◌else◌, ◌⇒◌, part, any, keep}
+use Rattle.model.specs.Lists.{if◌then◌otherwise◌, ◌⇒◌, part, any, keep}
 use Rattle.model.specs.Words.{kind_of, code_of, count_of, pair, closing_word}
 use Rattle.model.specs.Format.{Format, Hashes, Curve}
 use Rattle.model.specs.Traits.{traits_head, curve_number, format_with, format_of}
@@ -64,7 +64,7 @@ module _ (s : Hashes) (words : DigestWords s) (t : ℕ) (known : t < 6) where
   address-width m = by-curve (λ (c : Curve). length (c.hash s m) ≡ c.address) (words m).0 (words m).1 (words m).2 (curve_number t)
 
   meets : Meets f (on_roll []) [] verdict genesis
-  unfolding row_of row_in table fits kind_of code_of count_of address_ok previous_ok parent_ok time_ok phase_ok extraction_ok open_ok standing_ok latest_ok intent_ok spoiled_ok only_ok on_board_ok under_parent_ok under_ballot_ok on_roll_ok key_of opening part end_address end_after main_item any keep hashed ◌⇒◌ if◌then◌else◌ pair
+  unfolding row_of row_in table fits kind_of code_of count_of address_ok previous_ok parent_ok time_ok phase_ok extraction_ok open_ok standing_ok latest_ok intent_ok spoiled_ok only_ok on_board_ok under_parent_ok under_ballot_ok on_roll_ok key_of opening part end_address end_after main_item any keep hashed ◌⇒◌ if◌then◌otherwise◌ pair
   meets = record {
     listed = record { row = record { code = 1; kind = 1; writer = administrator; parent = zeros; counts = from◌to◌ 17 18 }; found = refl };
     counted = tt;

@@ -7,7 +7,7 @@ use mathlib.Core.List.{List, [], append-nil}
 use lib.ListN.{length, take, replicate}
 use lib.Seq.{sets}
 use borrow.Author.Tests.{ne_eqb}
-use Rattle.model.specs.Lists.{if◌then◌else◌}
+use Rattle.model.specs.Lists.{if◌then◌otherwise◌}
 use Rattle.model.specs.Format.{Curve, secp256r1, longest_address}
 use Rattle.model.specs.Traits.{curve_of, format_with}
 use Rattle.model.specs.History.{History}
@@ -49,15 +49,15 @@ longest = by-curve (λ (c : Curve). c.address ≤ longest_address) (omega arith)
 -- the hash of each curve, by its number
 module _ (curve : ℕ) (message : List ℕ) where
   by-512 : curve ≡ 2 → sha512_words message ≡ hash_by curve message
-  unfolding curve_of if◌then◌else◌
+  unfolding curve_of if◌then◌otherwise◌
   by-512 e = rw e
 
   pub by-384 : curve ≡ 1 → sha384_words message ≡ hash_by curve message
-  unfolding curve_of if◌then◌else◌
+  unfolding curve_of if◌then◌otherwise◌
   by-384 e = rw e
 
   other-curve : curve ≢ 2 → curve ≢ 1 → curve_of curve ≡ secp256r1
-  unfolding curve_of if◌then◌else◌
+  unfolding curve_of if◌then◌otherwise◌
   other-curve two one = rw (ne_eqb curve 1 one, ne_eqb curve 2 two)
 
   pub by-256 : curve ≢ 2 → curve ≢ 1 → sha256_words message ≡ hash_by curve message

@@ -8,7 +8,7 @@ use lib.ListN.{length, replicate}
 use lib.Dec.{T, ltb, lt→ltb}
 use lib.Arith.{le→nltb}
 use borrow.Author.Tests.{le-ltb}
-use Rattle.model.specs.Lists.{if◌then◌else◌}
+use Rattle.model.specs.Lists.{if◌then◌otherwise◌}
 use Rattle.model.specs.Refusal.{too_large, short_table}
 use Rattle.model.specs.History.{History}
 use Rattle.model.specs.Roll.{is_bad_roll}
@@ -79,7 +79,7 @@ module _ (board verdicts roll index ballots list : List ℕ) where
 
 module _ (board verdicts roll index ballots list : List ℕ) (s : Sized board index ballots list) where
   not-unread : (n : ℕ) → audit (format_of board) board verdicts roll (length index) (length ballots) ≡ unread n → ⊥
-  unfolding first_number start_reasons if◌then◌else◌
+  unfolding first_number start_reasons if◌then◌otherwise◌
   not-unread n e =
       let (reason, good, other) = (unread-reason (format_of board) board verdicts roll (length index) (length ballots) n).0 e in
       let some = unread-some (format_of board) board verdicts roll (length index) (length ballots) n e in

@@ -5,7 +5,7 @@ use mathlib.Core.Bool.{Bool, true, false}
 use mathlib.Core.List.{List}
 use lib.ListN.{length}
 use borrow.Author.Tests.{leb-true, leb-false, lt-ltb, le-ltb}
-use Rattle.model.specs.Lists.{if◌then◌else◌}
+use Rattle.model.specs.Lists.{if◌then◌otherwise◌}
 use Rattle.model.specs.Refusal.{short_table}
 use Rattle.model.specs.Format.{Format}
 use Rattle.model.specs.History.{History}
@@ -36,13 +36,13 @@ module _ (f : Format) (text : List ℕ) (o : Outcome) where
       (counted : bytes ≡ export_length (export_outcome (length text) (accepted h)))
       (wrote : text' ≡ text_after (export_outcome (length text) (accepted h)) text) where
     is-short : fits ≡ false → exporting ≡ unread short_table
-    unfolding export_outcome fits_in if◌then◌else◌
+    unfolding export_outcome fits_in if◌then◌otherwise◌
     is-short q =
         let less = leb-false (length (export_text h)) (length text) (sym told ∙ q) in
         rw (accepts, lt-ltb (length text) (length (export_text h)) less)
 
     is-fit : fits ≡ true → exporting ≡ o
-    unfolding export_outcome fits_in if◌then◌else◌
+    unfolding export_outcome fits_in if◌then◌otherwise◌
     is-fit q =
         let room = leb-true (length (export_text h)) (length text) (sym told ∙ q) in
         rw (accepts, le-ltb (length text) (length (export_text h)) room)

@@ -12,7 +12,7 @@ use mathlib.Core.List.{List, [], ◌∷◌, ◌++◌, append-nil}
 use lib.ListN.{length, length-append}
 use lib.Dec.{eqb}
 use borrow.Author.Tests.{eqb-true, eqb-false, eq-eqb, ne_eqb}
-use Rattle.model.specs.Lists.{if◌then◌else◌, keep}
+use Rattle.model.specs.Lists.{if◌then◌otherwise◌, keep}
 use Rattle.model.specs.Words.{main_kind}
 use Rattle.model.specs.History.{History, Entry, main, main_items, entry, history}
 use Rattle.model.specs.Audit.{word_limit}
@@ -43,13 +43,13 @@ module _ {board : List ℕ} {e : Entry} {r : Known} (is : IsKnown board e r) whe
 
   -- a main item has its line, a hidden one no text
   pub text-main : r.item.head.kind ≡ main_kind → entry_text e ≡ line_of (item_on board r.item.place)
-  unfolding entry_text if◌then◌else◌
+  unfolding entry_text if◌then◌otherwise◌
   text-main q =
       let yes : main e ≡ true = sym (known-main is) ∙ eq-eqb _ _ q in
       rw yes (ap line_of (is.item ∙ ap (item_on board) (sym known-place)))
 
   pub text-hidden : r.item.head.kind ≢ main_kind → entry_text e ≡ []
-  unfolding entry_text if◌then◌else◌
+  unfolding entry_text if◌then◌otherwise◌
   text-hidden n =
       let no : main e ≡ false = sym (known-main is) ∙ ne_eqb _ _ n in
       rw no
@@ -63,7 +63,7 @@ module _ {board : List ℕ} {e : Entry} {r : Known} (is : IsKnown board e r) whe
 -- ---- one item more
 
 text-last : (e : Entry) → lines_of (main_items (e ∷ [])) ≡ entry_text e
-unfolding keep lines_of entry_text if◌then◌else◌
+unfolding keep lines_of entry_text if◌then◌otherwise◌
 text-last e = by-test (main e) (λ q. rw q (append-nil (line_of e.item))) (λ q. rw q)
 
 export_text-snoc : (h : History) (e : Entry) → export_text (h ++ (e ∷ [])) ≡ export_text h ++ entry_text e

@@ -6,7 +6,7 @@ use mathlib.Core.Bool.{Bool, true, false}
 use mathlib.Core.List.{List, []}
 use lib.ListN.{length}
 use borrow.Author.Tests.{lt-ltb, le-ltb, lt-leb, le-leb}
-use Rattle.model.specs.Lists.{if◌then◌else◌}
+use Rattle.model.specs.Lists.{if◌then◌otherwise◌}
 use Rattle.model.specs.History.{History, entry}
 use Rattle.model.specs.Audit.{accepted}
 use Rattle.model.specs.Above.{buffer_after}
@@ -54,13 +54,13 @@ Answered s h fits bytes t =
 
 module _ (s : List ℕ) (h : History) {n : ℕ} (size : n ≡ length (export_text h)) where
   pub answered-short : length s < n → Answered s h false 0 s
-  unfolding fits_in export_outcome if◌then◌else◌ buffer_after
+  unfolding fits_in export_outcome if◌then◌otherwise◌ buffer_after
   answered-short l =
       let less = rw size at l in
       rw (lt-ltb (length s) (length (export_text h)) less, lt-leb (length (export_text h)) (length s) less) (refl, (refl, refl))
 
   pub answered-whole : n ≤ length s → {t : List ℕ} → t ≡ text_after (accepted h) s → Answered s h true n t
-  unfolding fits_in export_outcome if◌then◌else◌
+  unfolding fits_in export_outcome if◌then◌otherwise◌
   answered-whole l wrote =
       let room = rw size at l in
       rw (le-ltb (length s) (length (export_text h)) room, le-leb (length (export_text h)) (length s) room) (refl, (size, wrote))

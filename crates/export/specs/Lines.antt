@@ -1,6 +1,6 @@
 -- The text of an entry of a history, a line in two parts, and an item that stands whole on a board. Paper: request (xi). Assumes nothing.
 use Rattle.std.specs.Prelude.{ℕ, ◌≤◌, ◌≡◌, Bool, List, [], ◌++◌, length, leb}
-use Rattle.model.specs.Lists.{if◌then◌else◌}
+use Rattle.model.specs.Lists.{if◌then◌otherwise◌}
 use Rattle.model.specs.Item as model
 use Rattle.model.specs.History.{History, Entry, main}
 use Rattle.model.specs.Program.{decimal}
@@ -12,8 +12,8 @@ use Rattle.format.specs.Layout.{item_of}
 
 -- the line of a main item, and nothing of a hidden one
 unfoldable pub entry_text : Entry → List ℕ
-unfolding if◌then◌else◌
-entry_text e = if main e then line_of e.item else []
+unfolding if◌then◌otherwise◌
+entry_text e = if main e then line_of e.item otherwise []
 
 -- whether the export of a history fits into so many bytes
 unfoldable pub fits_in : ℕ → History → Bool

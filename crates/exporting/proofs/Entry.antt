@@ -10,7 +10,7 @@ use mathlib.Core.List.{List}
 use lib.ListN.{length, take, drop, length-append, length-drop}
 use lib.Seq.{take-append_seam, drop-append_seam}
 use lib.Dec.{T, ltb}
-use Rattle.model.specs.Lists.{if◌then◌else◌}
+use Rattle.model.specs.Lists.{if◌then◌otherwise◌}
 use Rattle.model.specs.Refusal.{short_table}
 use Rattle.model.specs.Format.{Format}
 use Rattle.model.specs.History.{History}
@@ -40,15 +40,15 @@ module _ {f : Format} {n k : ℕ} where
 
 -- the answer for an accepted board, by the test whether the buffer is too short
 abbrev by_room : Bool → History → Outcome
-by_room short h = if short then unread short_table else accepted h
+by_room short h = if short then unread short_table otherwise accepted h
 
 short-refuses : (f : Format) (short : Bool) (h : History) → Refuses f (by_room short h) 2 0 ↔ T short
-unfolding if◌then◌else◌ report_of
+unfolding if◌then◌otherwise◌ report_of
 short-refuses f true h = (λ r. tt, λ t. record { refusal = omega arith; number = refl; items = refl })
 short-refuses f false h = (λ r. omega (arith, r.number), λ t. absurd t)
 
 roomy-accepts : (short : Bool) (h : History) → (by_room short h ≡ accepted h) ↔ T (not short)
-unfolding if◌then◌else◌
+unfolding if◌then◌otherwise◌
 roomy-accepts true h = (λ e. absurd (not-unread e), λ t. absurd t)
 roomy-accepts false h = (λ e. tt, λ t. refl)
 

@@ -8,7 +8,7 @@ use mathlib.Core.Bool.{Bool}
 use mathlib.Core.List.{List, [], ◌∷◌, ◌++◌, append_assoc}
 use lib.ListN.{length, get_or, length-append}
 use lib.Dec.{T, eqb, eqb→eq}
-use Rattle.model.specs.Lists.{if◌then◌else◌, any, has}
+use Rattle.model.specs.Lists.{if◌then◌otherwise◌, any, has}
 use Rattle.model.specs.Words.{every_below}
 use Rattle.model.proofs.Tests.{and-iff}
 use Rattle.model.proofs.Sets.{every-below}
@@ -65,7 +65,7 @@ hex-bytes ws k = all-at is_hex (hex_words ws) k (all-hex_words is_hex tt ws)
 -- ---- words read back
 
 digit_value : (d : ℕ) → d < 16 → hex_value (hex_digit d) ≡ d
-unfolding hex_text bytes_of hex_value if◌then◌else◌ every_below
+unfolding hex_text bytes_of hex_value if◌then◌otherwise◌ every_below
 digit_value d l = eqb→eq _ _ (every-below 16 (λ k. eqb (hex_value (hex_digit k)) k) tt d l)
 
 digit-read : (w n : ℕ) → hex_value (hex_digit (w / n % 16)) ≡ w / n % 16

@@ -2,7 +2,7 @@
 -- Paper: request (xi). The paper's sheet for the export is the text buffer, of bytes. Assumes nothing.
 use Rattle.std.specs.Prelude.{ℕ, zero, suc, ◌/◌, ◌%◌, ◌^◌, List, [], ◌∷◌, ◌++◌, length, get_or, drop, ltb}
 use Prim.Native.String.{String}
-use Rattle.model.specs.Lists.{if◌then◌else◌}
+use Rattle.model.specs.Lists.{if◌then◌otherwise◌}
 use Rattle.model.specs.Refusal.{short_table}
 use Rattle.model.specs.Item.{Item, code, time}
 use Rattle.model.specs.History.{History, main_items}
@@ -68,10 +68,10 @@ export_text h = lines_of (main_items h)
 
 -- from the audit's outcome, with so many bytes in the text buffer: "a sheet shorter than the exact output is refused as 2, its item count 0 as always"
 unfoldable pub export_outcome : (room : ℕ) → Outcome → Outcome
-unfolding if◌then◌else◌
+unfolding if◌then◌otherwise◌
 export_outcome room (unread n) = unread n
 export_outcome room (refused n k) = refused n k
-export_outcome room (accepted h) = if ltb room (length (export_text h)) then unread short_table else accepted h
+export_outcome room (accepted h) = if ltb room (length (export_text h)) then unread short_table otherwise accepted h
 
 -- "The answer gives the output's length", beside the report of this outcome: 0 where nothing is written
 abbrev pub export_length : Outcome → ℕ

@@ -1,7 +1,7 @@
 -- What a reader makes of an export, line by line, and of a line the item that it tells of, its signature left aside.
 -- Paper: request (xi) ("Two accepted boards with the same export have the same main items"). Assumes nothing.
 use Rattle.std.specs.Prelude.{ℕ, zero, suc, ◌+◌, ◌-◌, ◌*◌, ◌/◌, ◌%◌, ◌^◌, ◌<◌, Bool, not, List, [], ◌∷◌, ◌++◌, length, get_or, drop, eqb, ltb}
-use Rattle.model.specs.Lists.{if◌then◌else◌}
+use Rattle.model.specs.Lists.{if◌then◌otherwise◌}
 use Rattle.model.specs.Words.{main_kind, between}
 use Rattle.model.specs.Item.{Item}
 use Rattle.model.specs.Program.{newline, digit, value_from}
@@ -15,9 +15,9 @@ AreWords ws = (k : ℕ) → get_or ws k 0 < 2 ^ 32
 
 -- the lines of a text of which the bytes `begun` of a line have been read; what no byte 10 ends is no line
 unfoldable pub lines_from : (begun : List ℕ) → List ℕ → List (List ℕ)
-unfolding if◌then◌else◌
+unfolding if◌then◌otherwise◌
 lines_from begun [] = []
-lines_from begun (b ∷ bs) = if eqb b newline then begun ∷ lines_from [] bs else lines_from (begun ++ (b ∷ [])) bs
+lines_from begun (b ∷ bs) = if eqb b newline then begun ∷ lines_from [] bs otherwise lines_from (begun ++ (b ∷ [])) bs
 
 abbrev pub lines_in : List ℕ → List (List ℕ)
 lines_in = lines_from []
@@ -26,14 +26,14 @@ lines_in = lines_from []
 
 -- the bytes up to the first that fails a test, and those from there on
 unfoldable pub up_to : (ℕ → Bool) → List ℕ → List ℕ
-unfolding if◌then◌else◌
+unfolding if◌then◌otherwise◌
 up_to p [] = []
-up_to p (b ∷ bs) = if p b then b ∷ up_to p bs else []
+up_to p (b ∷ bs) = if p b then b ∷ up_to p bs otherwise []
 
 unfoldable pub behind : (ℕ → Bool) → List ℕ → List ℕ
-unfolding if◌then◌else◌
+unfolding if◌then◌otherwise◌
 behind p [] = []
-behind p (b ∷ bs) = if p b then behind p bs else b ∷ bs
+behind p (b ∷ bs) = if p b then behind p bs otherwise b ∷ bs
 
 abbrev pub is_digit : ℕ → Bool
 is_digit = between (digit 0) (digit 9)
@@ -43,12 +43,12 @@ in_string b = not (eqb b quote)
 
 -- a value, and the bytes from its end on
 unfoldable pub read_value : List ℕ → Value
-unfolding if◌then◌else◌
-read_value bs = if eqb (get_or bs 0 0) quote then string (up_to in_string (drop 1 bs)) else number (value_from 0 (up_to is_digit bs))
+unfolding if◌then◌otherwise◌
+read_value bs = if eqb (get_or bs 0 0) quote then string (up_to in_string (drop 1 bs)) otherwise number (value_from 0 (up_to is_digit bs))
 
 unfoldable pub behind_value : List ℕ → List ℕ
-unfolding if◌then◌else◌
-behind_value bs = if eqb (get_or bs 0 0) quote then drop 1 (behind in_string (drop 1 bs)) else behind is_digit bs
+unfolding if◌then◌otherwise◌
+behind_value bs = if eqb (get_or bs 0 0) quote then drop 1 (behind in_string (drop 1 bs)) otherwise behind is_digit bs
 
 -- what follows the quote of a key: it, and behind its closing quote and the colon the value
 abbrev value_in : List ℕ → List ℕ
@@ -69,7 +69,7 @@ members_in bs = read_members 6 (drop 1 bs)
 
 -- the value of a hexadecimal digit
 unfoldable pub hex_value : ℕ → ℕ
-hex_value b = if ltb (digit 9) b then b - 87 else b - digit 0
+hex_value b = if ltb (digit 9) b then b - 87 otherwise b - digit 0
 
 -- words from eight digits each
 unfoldable pub words_in : List ℕ → List ℕ

@@ -7,7 +7,7 @@ use mathlib.Core.List.{List}
 use lib.Dec.{eqb, ltb}
 use lib.ListN.{length, get_or, get_or-eq_default}
 use borrow.Author.Tests.{eq-eqb, ne_eqb}
-use Rattle.model.specs.Lists.{if◌then◌else◌}
+use Rattle.model.specs.Lists.{if◌then◌otherwise◌}
 use Rattle.model.specs.Traits.{traits_head, traits_place, traits_known, traits_of, set_words}
 use Rattle.model.proofs.Tests.{by-test, is_true, is_false, leb-iff}
 use Rattle.model.proofs.Traits as traits
@@ -25,21 +25,21 @@ known-below t =
 module _ (ws : List ℕ) where
   -- no traits word, another first word, or a word that is not known
   pub traits-short : length ws ≤ traits_place → 0 ≡ traits_of ws
-  unfolding traits_of if◌then◌else◌
+  unfolding traits_of if◌then◌otherwise◌
   traits-short l =
       rw (get_or-eq_default ws 0 l)
       (by-test (eqb (get_or ws 0 0) traits_head) (λ q. rw q (by-test (traits_known 0) (λ k. rw k) (λ k. rw k))) (λ q. rw q))
 
   pub traits-headless : get_or ws 0 0 ≢ traits_head → 0 ≡ traits_of ws
-  unfolding traits_of if◌then◌else◌
+  unfolding traits_of if◌then◌otherwise◌
   traits-headless n = rw (ne_eqb (get_or ws 0 0) traits_head n)
 
   pub traits-unknown : traits_known (get_or ws traits_place 0) ≡ false → 0 ≡ traits_of ws
-  unfolding traits_of if◌then◌else◌
+  unfolding traits_of if◌then◌otherwise◌
   traits-unknown q = rw (q, and-false)
 
   pub traits-known : get_or ws 0 0 ≡ traits_head → traits_known (get_or ws traits_place 0) ≡ true → get_or ws traits_place 0 ≡ traits_of ws
-  unfolding traits_of if◌then◌else◌
+  unfolding traits_of if◌then◌otherwise◌
   traits-known p q = rw (eq-eqb (get_or ws 0 0) traits_head p, q)
 
   -- the least and the most words of each part
@@ -51,11 +51,11 @@ module _ (ws : List ℕ) where
 
 -- the words of a set
 pub sets-wide : (t : ℕ) → t % 2 ≡ 1 → 8 ≡ set_words t
-unfolding set_words if◌then◌else◌
+unfolding set_words if◌then◌otherwise◌
 sets-wide t q = rw (eq-eqb (t % 2) 1 q)
 
 pub sets-narrow : (t : ℕ) → t % 2 ≢ 1 → 1 ≡ set_words t
-unfolding set_words if◌then◌else◌
+unfolding set_words if◌then◌otherwise◌
 sets-narrow t n = rw (ne_eqb (t % 2) 1 n)
 
 -- what the code knows of a board's format, part by part

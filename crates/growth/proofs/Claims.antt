@@ -7,7 +7,7 @@ use mathlib.Core.Bool.{not}
 use mathlib.Core.List.{List, [], ◌∷◌, ◌++◌}
 use lib.ListN.{length, get_or}
 use lib.Dec.{T}
-use Rattle.model.specs.Lists.{if◌then◌else◌, part, count, has}
+use Rattle.model.specs.Lists.{if◌then◌otherwise◌, part, count, has}
 use Rattle.model.specs.Words.{between}
 use Rattle.model.specs.Format.{Format, Hashes}
 use Rattle.model.specs.Traits.{format_of}
@@ -111,7 +111,7 @@ module _ (f : Format) (ws vs ws' vs' roll index ballots index' ballots' : List �
 
   -- the new item's row: place, parent, session, main items before it, and nothing closed it
   pub row_new : part (5 * length h) 5 two.index ≡ (length ws - 1) ∷ parent_number h i ∷ or_none (session_number h i) ∷ count main h ∷ 4294967295 ∷ []
-  unfolding number_word if◌then◌else◌ entry_of
+  unfolding number_word if◌then◌otherwise◌ entry_of
   row_new = rw a' (Follow.row_new m s s' index ballots index' ballots')
 
   -- so, for a main item, what is answered and written for the second is `follow` of what was answered and written for the first: the report,

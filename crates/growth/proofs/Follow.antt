@@ -11,7 +11,7 @@ use lib.ListN.{length, get_or, set, take, drop, length-append, length-set, get_o
 use lib.Seq.{sets, get_or-set_other, take-append_seam, take_at}
 use lib.Dec.{T, eqb, leb, eqb→eq}
 use borrow.Author.Tests.{eqb-true, eqb-false, eq-eqb, ne_eqb, le-leb}
-use Rattle.model.specs.Lists.{if◌then◌else◌, part, any, count, keep, has, distinct}
+use Rattle.model.specs.Lists.{if◌then◌otherwise◌, part, any, count, keep, has, distinct}
 use Rattle.model.specs.Words.{same_words}
 use Rattle.model.specs.Codes.{ballot_type}
 use Rattle.model.specs.Format.{Format, longest_address}
@@ -44,7 +44,7 @@ use Rattle.growth.proofs.Longer.{made, longer, meets}
 
 -- a voter that has no row
 had-none : (v : ℕ) (xs : List Vote) → (T (has v (voters xs)) → ⊥) → without v xs ≡ xs
-unfolding any keep if◌then◌else◌
+unfolding any keep if◌then◌otherwise◌
 had-none v [] n = refl
 had-none v (x ∷ xs) n =
     let other = ne_eqb x.voter v (λ q. n (or_left (eqb v x.voter) (has v (voters xs)) (passes (eq-eqb v x.voter (sym q))))) in
@@ -54,7 +54,7 @@ had-none v (x ∷ xs) n =
 module _ (v w : ℕ) (es : List Elector) (rises : T (rising (map (λ e. e.voter) es))) (named : T (any (names v w) es)) where
   had-row : (xs : List Vote) → T (distinct (voters xs)) → Every (λ x. T (any (names x.voter x.weight) es)) xs → T (has v (voters xs))
       → (suc (length (without v xs)) ≡ length xs) × (total_weight (without v xs) + w ≡ total_weight xs)
-  unfolding any keep distinct total_weight if◌then◌else◌
+  unfolding any keep distinct total_weight if◌then◌otherwise◌
   had-row [] d all t = absurd t
   had-row (x ∷ xs) d all t =
       let (alone, rest) = (and-iff (not (has x.voter (voters xs))) (distinct (voters xs))).0 d in
@@ -197,7 +197,7 @@ module _ {f : Format} {ws vs roll : List ℕ} {h : History} (s : Sound f ws vs r
       ∙ sym (parent-first h i (later s m))
 
   new-session : new_session f ws a i ≡ number_word (session_number h i)
-  unfolding new_session report_of if◌then◌else◌
+  unfolding new_session report_of if◌then◌otherwise◌
   new-session =
       by-test (eqb (code i) 16)
       (λ q. rw (q, session-own h i (later s m) q, number-some (suc (length h)) (omega arith)))
@@ -213,7 +213,7 @@ module _ {f : Format} {ws vs roll : List ℕ} {h : History} (s : Sound f ws vs r
 
   new-index : length h < item_limit → index_need ≤ n
       → sets (closed_index f ws a i) (index_row * length h) (new_row f ws a i) ≡ filled n (index_rows (after s m) 0 (after s m))
-  unfolding closed_index if◌then◌else◌ report_of
+  unfolding closed_index if◌then◌otherwise◌ report_of
   new-index few room =
       let rows = index_rows h 0 h in
       let row = row_words (new s m) (count main h) 0 in
@@ -252,7 +252,7 @@ module _ {f : Format} {ws vs roll : List ℕ} {h : History} (s : Sound f ws vs r
     rows-read = take-filled b (ballot_rows (counted h)) _ (length-ballot_rows (counted h))
 
     new-ballots : new_ballots f ws a i ≡ filled b (ballot_rows (counted (after s m)))
-    unfolding new_ballots if◌then◌else◌ report_of ballot_rows
+    unfolding new_ballots if◌then◌otherwise◌ report_of ballot_rows
     new-ballots =
         by-test (eqb (code i) 20)
         (λ q. let c = eqb-true (code i) 20 q in
@@ -271,9 +271,9 @@ module _ {f : Format} {ws vs roll : List ℕ} {h : History} (s : Sound f ws vs r
     not_new q = rw q
 
     -- how many they are, and their weight
-    new-totals : (length (counted (after s m)) ≡ (if is_new_voter f ws a i then suc (length (counted h)) else length (counted h)))
-        × (total_weight (counted (after s m)) ≡ (if is_new_voter f ws a i then total_weight (counted h) + (new_vote f ws a i).weight else total_weight (counted h)))
-    unfolding if◌then◌else◌
+    new-totals : (length (counted (after s m)) ≡ (if is_new_voter f ws a i then suc (length (counted h)) otherwise length (counted h)))
+        × (total_weight (counted (after s m)) ≡ (if is_new_voter f ws a i then total_weight (counted h) + (new_vote f ws a i).weight otherwise total_weight (counted h)))
+    unfolding if◌then◌otherwise◌
     new-totals =
         by-test (eqb (code i) 20)
         (λ q. let c = eqb-true (code i) 20 q in
@@ -283,7 +283,7 @@ module _ {f : Format} {ws vs roll : List ℕ} {h : History} (s : Sound f ws vs r
         (λ q. rw (not_new q, counted-other s.passed m (length ws - 1) (eqb-false (code i) 20 q)) (refl, refl))
 
     new-report : report_of f (accepted (after s m)) ≡ (follow f ws a i).report
-    unfolding report_of follow if◌then◌else◌ entry_of
+    unfolding report_of follow if◌then◌otherwise◌ entry_of
     new-report =
         let new = new s m in
         let yes = is_true (is_main i) t in

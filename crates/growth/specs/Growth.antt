@@ -2,7 +2,7 @@
 -- accepted, what the audit answers and writes for the second from what it answered and wrote for the first. Paper: request (xiii). Assumes nothing.
 use Rattle.std.specs.Prelude.{ℕ, zero, suc, ◌+◌, ◌-◌, ◌*◌, ◌≡◌, Bool, not, ◌&&◌, List, [], ◌∷◌, ◌++◌, length, set, take, eqb}
 use Rattle.std.proofs.lemmas.List.Edits.{sets}
-use Rattle.model.specs.Lists.{if◌then◌else◌, has}
+use Rattle.model.specs.Lists.{if◌then◌otherwise◌, has}
 use Rattle.model.specs.Words.{same_words, closing_word}
 use Rattle.model.specs.Codes.{session_type, cast_type}
 use Rattle.model.specs.Format.{Format, longest_address}
@@ -41,9 +41,9 @@ rows_read [] = []
 
 -- the first of n numbers from k on that passes, 0 where none does
 unfoldable pub first_of : (ℕ → Bool) → ℕ → ℕ → ℕ
-unfolding if◌then◌else◌
+unfolding if◌then◌otherwise◌
 first_of p k zero = 0
-first_of p k (suc n) = if p k then k else first_of p (suc k) n
+first_of p k (suc n) = if p k then k otherwise first_of p (suc k) n
 
 -- the item of row k of an index table
 abbrev pub row_item : Format → (board index : List ℕ) → ℕ → Item
@@ -63,7 +63,7 @@ module _ (f : Format) (ws : List ℕ) (a : Audited) (i : Item) where
 
   -- the word for its session: its own number if it is one, and else as in its parent's row
   unfoldable pub new_session : ℕ
-  new_session = if eqb (code i) session_type then new_number else row_word a.index new_parent session_column
+  new_session = if eqb (code i) session_type then new_number otherwise row_word a.index new_parent session_column
 
   -- its row: its head stands where the closing word stood, all main items are before it, and nothing closed it
   abbrev pub new_row : List ℕ
@@ -71,7 +71,7 @@ module _ (f : Format) (ws : List ℕ) (a : Audited) (i : Item) where
 
   -- "unchanged, save the fifth word of the ballot that a cast or spoil closes"
   unfoldable pub closed_index : List ℕ
-  closed_index = if cast_or_spoil (code i) then set a.index (row_place new_parent closer_column) new_number else a.index
+  closed_index = if cast_or_spoil (code i) then set a.index (row_place new_parent closer_column) new_number otherwise a.index
 
   -- what a cast says: its ballot's main number is one more than the main items before that, voter and weight are its session's
   unfoldable pub new_vote : Vote
@@ -90,7 +90,7 @@ module _ (f : Format) (ws : List ℕ) (a : Audited) (i : Item) where
   unfoldable pub new_ballots : List ℕ
   new_ballots =
       if eqb (code i) cast_type then filled (length a.ballots) (ballot_rows (without new_vote.voter votes_before ++ (new_vote ∷ [])))
-      else a.ballots
+      otherwise a.ballots
 
   -- a cast of a voter that had no row: this alone adds a ballot, and weight
   unfoldable pub is_new_voter : Bool
@@ -104,8 +104,8 @@ module _ (f : Format) (ws : List ℕ) (a : Audited) (i : Item) where
       items = new_number;
       mains = suc a.report.mains;
       end = filled longest_address i.address;
-      ballots = if is_new_voter then suc a.report.ballots else a.report.ballots;
-      weight = if is_new_voter then a.report.weight + new_vote.weight else a.report.weight;
+      ballots = if is_new_voter then suc a.report.ballots otherwise a.report.ballots;
+      weight = if is_new_voter then a.report.weight + new_vote.weight otherwise a.report.weight;
     };
     index = sets closed_index (index_row * a.report.items) new_row;
     ballots = new_ballots;

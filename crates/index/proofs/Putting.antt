@@ -10,7 +10,7 @@ use lib.ListN.{length, set, take, length-set, length-take, length-append}
 use lib.Dec.{T, eqb}
 use lib.Seq.{sets, length-sets, length-take-le, set-append_left, take_all}
 use borrow.Author.Tests.{ne_eqb}
-use Rattle.model.specs.Lists.{if◌then◌else◌, count}
+use Rattle.model.specs.Lists.{if◌then◌otherwise◌, count}
 use Rattle.model.specs.Item as model
 use Rattle.model.specs.Item.{code}
 use Rattle.model.specs.History.{History, Entry, main, main_number, parent_number, session_number, place_of, history, entry_of, cast_or_spoil}
@@ -41,15 +41,15 @@ row_with mains c = c.item.place ∷ c.parent ∷ number_word c.session ∷ mains
 -- the two cases of what an item closes
 module _ (c : Known) (n : ℕ) (words : List ℕ) where
   pub closed_none : cast_or_spoil c.item.head.code ≡ false → words ≡ closed_by c n words
-  unfolding closed_by if◌then◌else◌
+  unfolding closed_by if◌then◌otherwise◌
   closed_none q = rw q
 
   pub closed_some : cast_or_spoil c.item.head.code ≡ true → set words (row_place c.parent closer_column) n ≡ closed_by c n words
-  unfolding closed_by if◌then◌else◌
+  unfolding closed_by if◌then◌otherwise◌
   closed_some q = rw q
 
 pub length-closed : (c : Known) (n : ℕ) (words : List ℕ) → length (closed_by c n words) ≡ length words
-unfolding closed_by if◌then◌else◌
+unfolding closed_by if◌then◌otherwise◌
 length-closed c n words = by-test (cast_or_spoil c.item.head.code) (λ q. rw q (length-set words (row_place c.parent closer_column) n)) (λ q. rw q)
 
 -- what is stored fits a word

@@ -5,7 +5,7 @@ use mathlib.Core.Path.{◌≡◌, refl, sym, ap, subst, ◌∙◌}
 use mathlib.Core.List.{List}
 use lib.ListN.{length}
 use borrow.Author.Tests.{ne_eqb}
-use Rattle.model.specs.Lists.{if◌then◌else◌}
+use Rattle.model.specs.Lists.{if◌then◌otherwise◌}
 use Rattle.model.specs.Item.{item_length}
 use Rattle.model.specs.History.{Entry, entry, closer}
 use Rattle.model.specs.Audit.{item_limit}
@@ -23,7 +23,7 @@ use Rattle.index.proofs.Items.{entry-item, entry-session-bound, item-within}
 
 -- a word gives its item number back
 number-back : (n : ℕ) → n ≤ item_limit → number_in (number_word n) ≡ n
-unfolding number_word number_in if◌then◌else◌
+unfolding number_word number_in if◌then◌otherwise◌
 number-back zero l = refl
 number-back (suc n) l = rw (ne_eqb (suc n) 0 (λ q. omega arith), ne_eqb (suc n) no_number (λ q. omega arith))
 

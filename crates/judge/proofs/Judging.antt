@@ -6,7 +6,7 @@ use mathlib.Core.Option.{none}
 use mathlib.Core.List.{List}
 use lib.ListN.{length, get_or}
 use borrow.Author.Tests.{lt-ltb, le-ltb}
-use Rattle.model.specs.Lists.{if◌then◌else◌}
+use Rattle.model.specs.Lists.{if◌then◌otherwise◌}
 use Rattle.model.specs.Refusal.{no_fault, unknown_type, wrong_count, truncated}
 use Rattle.model.specs.Words.{kind_of, code_of, count_of}
 use Rattle.model.specs.Item.{behind}
@@ -64,18 +64,18 @@ module _ (board verdicts roll : List ℕ) (s : State) where
 
   module _ (row : Row) (is : IsRow board s row) where
     pub fault-count : types.fits (counts_of row.counts) (count_of word) ≡ false → fault_after board verdicts roll s ≡ wrong_count
-    unfolding fault_in head_fault if◌then◌else◌
+    unfolding fault_in head_fault if◌then◌otherwise◌
     fault-count q = rw (is, q)
 
     module _ (counted : types.fits (counts_of row.counts) (count_of word) ≡ true) where
       pub fault_past : {item : Item} → item ≡ item_of board s.place → length board < item.end → fault_after board verdicts roll s ≡ truncated
-      unfolding fault_in head_fault if◌then◌else◌
+      unfolding fault_in head_fault if◌then◌otherwise◌
       fault_past at_place l = rw (is, counted, lt-ltb _ _ (rw (item-end board s.place at_place) at l))
 
       -- 7 to 16 and 21
       pub fault-checks : Stands board s → behind (format_of board) board s.place ≤ length board
           → fault_after board verdicts roll s ≡ first_unmet (checks_of board (on_roll roll) (verdict_at verdicts s.items) s row)
-      unfolding fault_in head_fault if◌then◌else◌
+      unfolding fault_in head_fault if◌then◌otherwise◌
       fault-checks stands l = rw (is, counted, le-ltb _ _ l, length-history (format_of board) board s.items, stands.place)
 
 -- ---- the item at hand

@@ -8,7 +8,7 @@ use mathlib.Core.List.{List}
 use lib.ListN.{length, get_or, take, drop, replicate}
 use lib.Dec.{eqb, leb, lit<}
 use borrow.Author.Tests.{eq-eqb, ne_eqb, eqb-false, le-leb}
-use Rattle.model.specs.Lists.{if◌then◌else◌, part}
+use Rattle.model.specs.Lists.{if◌then◌otherwise◌, part}
 use Rattle.model.specs.Words.{code_of, count_of, pair, same_words}
 use Rattle.model.specs.Item as model
 use Rattle.model.specs.Item.{item_at, hashed_length, code, is_main, time}
@@ -86,16 +86,16 @@ module _ {board index : List ℕ} {s : State} {c : Known} (a : AtItem board inde
     previous = part c.item.previous w board
 
     pub previous-hidden : (c.item.head.kind ≡ 1 → ⊥) → same_words previous (part c.item.parent w board) ≡ previous_ok (format_of board) (before board s.items) i
-    unfolding previous_ok if◌then◌else◌
+    unfolding previous_ok if◌then◌otherwise◌
     previous-hidden n = rw (width, at-previous-words a, at-parent-words a, main-is false (ne_eqb _ _ n))
 
     pub previous-first : c.item.head.kind ≡ 1 → s.last ≡ 0 → same_words previous (replicate w 0) ≡ previous_ok (format_of board) (before board s.items) i
-    unfolding previous_ok if◌then◌else◌
+    unfolding previous_ok if◌then◌otherwise◌
     previous-first m z = rw (width, at-previous-words a, main-is true (eq-eqb _ _ m), end_none a.stands z)
 
     pub previous-main : c.item.head.kind ≡ 1 → (s.last ≡ 0 → ⊥) → (e : Known) → IsKnown board (entry (before board s.items) s.last) e
         → same_words previous (part e.item.address w board) ≡ previous_ok (format_of board) (before board s.items) i
-    unfolding previous_ok if◌then◌else◌
+    unfolding previous_ok if◌then◌otherwise◌
     previous-main m n e k = rw (width, at-previous-words a, main-is true (eq-eqb _ _ m), end-last a.stands n, known-address k)
 
   -- ---- 9, the parent
@@ -134,7 +134,7 @@ module _ {board index : List ℕ} {s : State} {c : Known} (a : AtItem board inde
   -- ---- 10, the time
 
   abbrev earlier : ℕ
-  earlier = if eqb c.item.head.kind 1 then s.last else c.parent
+  earlier = if eqb c.item.head.kind 1 then s.last otherwise c.parent
 
   -- a hidden item is not genesis
   hidden-in : eqb c.item.head.kind 1 ≡ false → c.parent ≤ s.items
@@ -144,11 +144,11 @@ module _ {board index : List ℕ} {s : State} {c : Known} (a : AtItem board inde
       true≢false (sym t ∙ main-is false q)
 
   pub earlier-in : earlier ≤ s.items
-  unfolding if◌then◌else◌
+  unfolding if◌then◌otherwise◌
   earlier-in = by-test (eqb c.item.head.kind 1) (λ q. rw q (last-in-range a.stands)) (λ q. rw q (hidden-in q))
 
   time_ok-earlier : time_ok (before board s.items) i ≡ leb (time (item_no (before board s.items) earlier)) (time i)
-  unfolding time_ok if◌then◌else◌
+  unfolding time_ok if◌then◌otherwise◌
   time_ok-earlier =
       by-test (eqb c.item.head.kind 1)
       (λ q. rw (main-is true q, q, last-item a.stands))

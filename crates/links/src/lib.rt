@@ -2,7 +2,7 @@
 #![tactic(auto)]
 
 ghost use Rattle.std.specs.Prelude.{◌≡◌, ◌≤◌, length, eqb};
-ghost use Rattle.model.specs.Lists.{if◌then◌else◌};
+ghost use Rattle.model.specs.Lists.{if◌then◌otherwise◌};
 ghost use Rattle.model.specs.Words.{main_kind};
 ghost use Rattle.model.specs.Links.{address_ok, previous_ok, parent_ok, time_ok};
 ghost use Rattle.format.specs.Format.{format_of};
@@ -73,7 +73,7 @@ pub fn parent_ok(board: &[u32], index: &[u32], s: State, c: Known, row: Row) -> 
 
 // The number of the item that an item must not be earlier than: the last main item, for a hidden item its parent; 0 if there is none.
 fn earlier(s: State, c: Known) -> usize
-    ensures { result ≡ (if eqb c.item.head.kind main_kind then s.last else c.parent) }
+    ensures { result ≡ (if eqb c.item.head.kind main_kind then s.last otherwise c.parent) }
 {
     if c.item.head.kind == Head::MAIN {
         return s.last;

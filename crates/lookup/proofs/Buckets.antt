@@ -11,7 +11,7 @@ use lib.ListN.{length, get_or, drop}
 use lib.Seq.{get_or-drop, get_or-take}
 use lib.Dec.{eqb, lit<}
 use borrow.Author.Tests.{eq-eqb, ne_eqb}
-use Rattle.model.specs.Lists.{if◌then◌else◌, part}
+use Rattle.model.specs.Lists.{if◌then◌otherwise◌, part}
 use Rattle.model.specs.Codes.{session_type}
 use Rattle.model.specs.Item.{Item, code}
 use Rattle.model.specs.History.{Entry, place_of, entry_of}
@@ -38,7 +38,7 @@ pub voter-small : (v : ℕ) → of_voter v < buckets
 voter-small v = omega arith
 
 session-small : (i : Item) → of_session i < buckets
-unfolding if◌then◌else◌
+unfolding if◌then◌otherwise◌
 session-small i =
     by-test (eqb (code i) session_type) (λ q. rw q (voter-small _)) (λ q. rw q (lit< tt))
 
@@ -94,13 +94,13 @@ module _ {board index : List ℕ} {n : ℕ} {c : Known} (p : Passing board index
   voter-inside q = omega (arith, (known-within is).content, voter-word q)
 
   pub in-voter : c.item.head.code ≡ session_type → {r : ℕ} → r ≡ of_voter (get_or board c.item.content 0) → r ≡ of_session (item_after board n)
-  unfolding entry_of if◌then◌else◌
+  unfolding entry_of if◌then◌otherwise◌
   in-voter q e =
       let word = rw add-zero at (known-word is 0 (voter-word q)) in
       e ∙ rw (eq-eqb _ _ (typed q), word)
 
   pub in-none : c.item.head.code ≢ session_type → 0 ≡ of_session (item_after board n)
-  unfolding entry_of if◌then◌else◌
+  unfolding entry_of if◌then◌otherwise◌
   in-none q = rw (← known-code is, ne_eqb c.item.head.code session_type q)
 
   pub session-inside : {r : ℕ} → r ≡ of_session (item_after board n) → r < buckets

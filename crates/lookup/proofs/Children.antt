@@ -11,7 +11,7 @@ use mathlib.Core.Bool.{Bool, false, and-false}
 use mathlib.Core.List.{List}
 use lib.Dec.{eqb}
 use borrow.Author.Tests.{eq-eqb, ne_eqb}
-use Rattle.model.specs.Lists.{if◌then◌else◌, any}
+use Rattle.model.specs.Lists.{if◌then◌otherwise◌, any}
 use Rattle.model.specs.Item.{code}
 use Rattle.model.specs.History.{Entry, entry, child_of}
 use Rattle.index.specs.Kept.{before, Kept}
@@ -31,13 +31,13 @@ module _ (board : List ℕ) (n : ℕ) (p : Entry → Bool) where
       (λ l. any-ends board n p (suc k) (omega arith) ∙ sym (any-ends board n p (suc (suc k)) (omega arith)))
 
 -- where the search begins
-module _ (parent r : ℕ) (told : r ≡ (if eqb parent 0 then 1 else parent)) where
+module _ (parent r : ℕ) (told : r ≡ (if eqb parent 0 then 1 otherwise parent)) where
   begin-first : parent ≡ 0 → r ≡ 1
-  unfolding if◌then◌else◌
+  unfolding if◌then◌otherwise◌
   begin-first z = told ∙ rw (eq-eqb parent 0 z)
 
   begin-later : 1 ≤ parent → r ≡ parent
-  unfolding if◌then◌else◌
+  unfolding if◌then◌otherwise◌
   begin-later l = told ∙ rw (ne_eqb parent 0 (λ z. omega arith))
 
   pub begin-some : 1 ≤ r
@@ -51,7 +51,7 @@ module _ {board index : List ℕ} {n : ℕ} (kept : Kept board index n) (parent 
       let other : eqb e.parent parent ≡ false = ne_eqb e.parent parent (λ same. omega (arith, (entry-parent-bound kept k s l).1)) in
       rw other (and-false (q (code e.item)))
 
-  pub begin-all : (r : ℕ) → r ≡ (if eqb parent 0 then 1 else parent)
+  pub begin-all : (r : ℕ) → r ≡ (if eqb parent 0 then 1 otherwise parent)
       → any (child_of parent q) (before board n) ≡ any (child_of parent q) (from board n r)
   begin-all r told =
       by_cases (dec_le 1 parent)

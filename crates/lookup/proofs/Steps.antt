@@ -12,7 +12,7 @@ use lib.ListN.{length, take, drop, length-take, drop_of_length-le}
 use lib.Seq.{drop-cons, take-suc, length-take-le, take_all}
 use lib.Dec.{eqb, eqb-suc-zero}
 use borrow.Author.Tests.{eq-eqb, ne_eqb}
-use Rattle.model.specs.Lists.{if◌then◌else◌, any, count}
+use Rattle.model.specs.Lists.{if◌then◌otherwise◌, any, count}
 use Rattle.model.specs.History.{History, Entry, absent, entry, main, main_number, first, first_from, last, last_from}
 use Rattle.model.proofs.Tests.{by-test}
 use Rattle.model.proofs.Lists.{count-few}
@@ -44,9 +44,9 @@ main-zero k [] = refl
 main-zero k (e ∷ es) = refl
 
 -- at an item e, where left main items are to be passed, the last of them the one sought: rest are left after it
-main-turn : (k left rest : ℕ) (e : Entry) (es : History) → 1 ≤ left → rest ≡ (if main e then left - 1 else left)
-    → main_from k left (e ∷ es) ≡ (if eqb rest 0 then k else main_from (suc k) rest es)
-unfolding main_from if◌then◌else◌
+main-turn : (k left rest : ℕ) (e : Entry) (es : History) → 1 ≤ left → rest ≡ (if main e then left - 1 otherwise left)
+    → main_from k left (e ∷ es) ≡ (if eqb rest 0 then k otherwise main_from (suc k) rest es)
+unfolding main_from if◌then◌otherwise◌
 main-turn k zero rest e es s a = absurd (not-suc-le-zero s)
 main-turn k (suc zero) rest e es s a =
     by-test (main e)
@@ -60,7 +60,7 @@ main-turn k (suc (suc m)) rest e es s a =
 -- behind the first j items, where fewer of them are main than are to be passed
 main-skip : (k left : ℕ) (es : History) (j : ℕ) → count main (take j es) < left
     → main_from k left es ≡ main_from (k + j) (left - count main (take j es)) (drop j es)
-unfolding main_from count if◌then◌else◌
+unfolding main_from count if◌then◌otherwise◌
 main-skip k left es zero l = rw (add-zero, sub-zero)
 main-skip k left [] (suc j) l = refl
 main-skip k left (e ∷ es) (suc j) l =
@@ -130,22 +130,22 @@ module _ (board : List ℕ) (n : ℕ) where
       size : suc (length (up_to (k - 1))) ≡ k
       size = omega (arith, length-take-le (k - 1) h (omega (arith, within)))
 
-      pub last_step : last p (up_to k) ≡ (if p (entry h k) then k else last p (up_to (k - 1)))
+      pub last_step : last p (up_to k) ≡ (if p (entry h k) then k otherwise last p (up_to (k - 1)))
       last_step = ap (last p) (to-entry h k s within) ∙ last_snoc p (up_to (k - 1)) (entry h k) ∙ rw size
 
       pub first_step : first p (up_to k)
-          ≡ (if eqb (first p (up_to (k - 1))) 0 then (if p (entry h k) then k else 0) else first p (up_to (k - 1)))
+          ≡ (if eqb (first p (up_to (k - 1))) 0 then (if p (entry h k) then k otherwise 0) otherwise first p (up_to (k - 1)))
       first_step = ap (first p) (to-entry h k s within) ∙ first-snoc p (up_to (k - 1)) (entry h k) ∙ rw size
 
   -- ---- up to a main number
 
-  module _ (k left rest : ℕ) (s : 1 ≤ k) (l : k ≤ n) (some : 1 ≤ left) (after : rest ≡ (if main (entry h k) then left - 1 else left)) where
+  module _ (k left rest : ℕ) (s : 1 ≤ k) (l : k ≤ n) (some : 1 ≤ left) (after : rest ≡ (if main (entry h k) then left - 1 otherwise left)) where
     pub main-stops : rest ≡ 0 → main_from k left (from k) ≡ k
-    unfolding if◌then◌else◌
+    unfolding if◌then◌otherwise◌
     main-stops q = rw (from-k k s l, main-turn k left rest (entry h k) (from (k + 1)) some after, eq-eqb rest 0 q)
 
     pub main-goes : rest ≢ 0 → main_from k left (from k) ≡ main_from (k + 1) rest (from (k + 1))
-    unfolding if◌then◌else◌
+    unfolding if◌then◌otherwise◌
     main-goes q = rw (from-k k s l, main-turn k left rest (entry h k) (from (k + 1)) some after, ne_eqb rest 0 q, add-one)
 
   -- the items before number m have fewer main ones than m

@@ -9,7 +9,7 @@ use mathlib.Core.List.{List}
 use lib.ListN.{get_or}
 use lib.Dec.{eqb}
 use borrow.Author.Tests.{eq-eqb, ne_eqb, not-true, not-false}
-use Rattle.model.specs.Lists.{if◌then◌else◌, part}
+use Rattle.model.specs.Lists.{if◌then◌otherwise◌, part}
 use Rattle.model.specs.Words.{main_kind, same_words}
 use Rattle.model.specs.Codes.{session_type}
 use Rattle.model.specs.Item.{item_at, item_length, code}
@@ -54,8 +54,8 @@ module _ {board : List ℕ} {e : Entry} {c : Known} (is : IsKnown board e c) whe
   pub told-from : (p : Entry → Bool) {r : Bool} → r ≡ p (entry_from board c) → r ≡ p e
   told-from p q = q ∙ ap p (from-known is)
 
-  pub told-left : (left : ℕ) {rest : ℕ} → rest ≡ (if eqb c.item.head.kind main_kind then left - 1 else left)
-      → rest ≡ (if main e then left - 1 else left)
+  pub told-left : (left : ℕ) {rest : ℕ} → rest ≡ (if eqb c.item.head.kind main_kind then left - 1 otherwise left)
+      → rest ≡ (if main e then left - 1 otherwise left)
   told-left left q = q ∙ rw (known-main is)
 
   -- ---- the tests themselves

@@ -9,7 +9,7 @@ use mathlib.Core.List.{List}
 use lib.ListN.{get_or}
 use lib.Dec.{eqb}
 use borrow.Author.Tests.{eq-eqb, ne_eqb, eqb-true, eqb-false}
-use Rattle.model.specs.Lists.{if◌then◌else◌}
+use Rattle.model.specs.Lists.{if◌then◌otherwise◌}
 use Rattle.model.specs.Codes.{session_type}
 use Rattle.model.specs.Item.{code}
 use Rattle.model.specs.History.{History, Entry, entry, first, last, entry_of}
@@ -51,7 +51,7 @@ module _ {bucket : ℕ → ℕ} (small : (k : ℕ) → bucket k < buckets) {tabl
 -- the one found, or else the other
 infixl 30 ◌or_else◌
 abbrev pub ◌or_else◌ : ℕ → ℕ → ℕ
-◌or_else◌ a b = if eqb a 0 then b else a
+◌or_else◌ a b = if eqb a 0 then b otherwise a
 
 module _ (board : List ℕ) (n : ℕ) (p : Entry → Bool) where
   abbrev h : History
@@ -64,32 +64,32 @@ module _ (board : List ℕ) (n : ℕ) (p : Entry → Bool) where
 
   module _ (k : ℕ) (s : 1 ≤ k) (l : k ≤ n) where
     pub last-stops : {r : Bool} → r ≡ p (entry h k) → r ≡ true → last p (to k) ≡ k
-    unfolding if◌then◌else◌
+    unfolding if◌then◌otherwise◌
     last-stops told q = last_step board n p k s l ∙ rw (← told, q)
 
     last-fails : p (entry h k) ≡ false → last p (to k) ≡ last p (to (k - 1))
-    unfolding if◌then◌else◌
+    unfolding if◌then◌otherwise◌
     last-fails q = last_step board n p k s l ∙ rw q
 
     first-fails : p (entry h k) ≡ false → first p (to k) ≡ first p (to (k - 1))
-    unfolding if◌then◌else◌
+    unfolding if◌then◌otherwise◌
     first-fails q =
         let less = first p (to (k - 1)) in
         first_step board n p k s l ∙ by-test (eqb less 0) (λ none. rw (none, q) (sym (eqb-true less 0 none))) (λ some. rw some)
 
     -- item k is the one found, if it passes
     module _ {r : Bool} (told : r ≡ p (entry h k)) (found : ℕ) {next : ℕ} where
-      pub found-new : r ≡ true → next ≡ k → next ≡ (if p (entry h k) then k else found)
-      unfolding if◌then◌else◌
+      pub found-new : r ≡ true → next ≡ k → next ≡ (if p (entry h k) then k otherwise found)
+      unfolding if◌then◌otherwise◌
       found-new q e = e ∙ rw (← told, q)
 
-      pub found-old : r ≡ false → next ≡ found → next ≡ (if p (entry h k) then k else found)
-      unfolding if◌then◌else◌
+      pub found-old : r ≡ false → next ≡ found → next ≡ (if p (entry h k) then k otherwise found)
+      unfolding if◌then◌otherwise◌
       found-old q e = e ∙ rw (← told, q)
 
     -- one found before item k stands, and else item k may be it
-    first-turn : (found : ℕ) → first p (to k) or_else found ≡ first p (to (k - 1)) or_else (if p (entry h k) then k else found)
-    unfolding if◌then◌else◌
+    first-turn : (found : ℕ) → first p (to k) or_else found ≡ first p (to (k - 1)) or_else (if p (entry h k) then k otherwise found)
+    unfolding if◌then◌otherwise◌
     first-turn found =
         let less = first p (to (k - 1)) in
         let some : eqb k 0 ≡ false = ne_eqb k 0 (λ q. omega arith) in
@@ -121,7 +121,7 @@ module _ (board : List ℕ) (n : ℕ) (p : Entry → Bool) where
           ∙ ap (λ (k : ℕ). last p (to k)) (sym at.is)
 
       pub first-starts : first p h ≡ first p (to r) or_else 0
-      unfolding if◌then◌else◌
+      unfolding if◌then◌otherwise◌
       first-starts =
           ap (first p) (sym (to-all board n))
           ∙ skips (λ k. first p (to k)) first-fails n (le_refl n)
@@ -135,14 +135,14 @@ module _ (board : List ℕ) (n : ℕ) (p : Entry → Bool) where
           ∙ skips (λ k. last p (to k)) last-fails (k - 1) (omega arith)
           ∙ ap (λ (k : ℕ). last p (to k)) (sym at.is)
 
-      pub first_goes : (found : ℕ) {next : ℕ} → next ≡ (if p (entry h k) then k else found) → first p (to k) or_else found ≡ first p (to r) or_else next
+      pub first_goes : (found : ℕ) {next : ℕ} → next ≡ (if p (entry h k) then k otherwise found) → first p (to k) or_else found ≡ first p (to r) or_else next
       first_goes found e =
           first-turn k s l found
-          ∙ ap (λ (a : ℕ). a or_else (if p (entry h k) then k else found)) (skips (λ k. first p (to k)) first-fails (k - 1) (omega arith))
+          ∙ ap (λ (a : ℕ). a or_else (if p (entry h k) then k otherwise found)) (skips (λ k. first p (to k)) first-fails (k - 1) (omega arith))
           ∙ rw (e, ← at.is)
 
   pub first_done : (k found : ℕ) → k ≡ 0 → first p (to k) or_else found ≡ found
-  unfolding if◌then◌else◌
+  unfolding if◌then◌otherwise◌
   first_done k found none = rw (first_ends board n p k none)
 
 -- ---- an item that passes is in the bucket
@@ -156,7 +156,7 @@ addressed-only board from n m at (suc k) s l q =
     ap of_address ((same-iff (item_after board k).address (address_in board from at)).0 same) ∙ ap (λ (w : ℕ). w % buckets) (first_word board from at)
 
 pub session-only : (board : List ℕ) (n voter k : ℕ) → 1 ≤ k → k ≤ n → session_of voter (entry (before board n) k) ≡ true → by_voter board k ≡ of_voter voter
-unfolding by_voter entry_of if◌then◌else◌
+unfolding by_voter entry_of if◌then◌otherwise◌
 session-only board n voter zero s l q = absurd (not-suc-le-zero s)
 session-only board n voter (suc k) s l q =
     let (kind, same) = simp facts at (passes (rw (entry-made board n k l) at q)) in

@@ -1,7 +1,7 @@
 -- The bucket of an item: by its address where a parent is sought, by its voter where a session is. Items that a search is for are in one
 -- bucket. Not of the paper: it changes no answer. Assumes nothing.
 use Rattle.std.specs.Prelude.{ℕ, zero, suc, ◌%◌, List, get_or, eqb}
-use Rattle.model.specs.Lists.{if◌then◌else◌}
+use Rattle.model.specs.Lists.{if◌then◌otherwise◌}
 use Rattle.model.specs.Codes.{session_type}
 use Rattle.model.specs.Item.{Item, code}
 use Rattle.model.specs.History.{session_voter}
@@ -18,7 +18,7 @@ of_voter voter = suc (voter % 2047)
 
 -- of an item, by its voter: bucket 0 has what is no session
 abbrev pub of_session : Item → ℕ
-of_session i = if eqb (code i) session_type then of_voter (session_voter i) else 0
+of_session i = if eqb (code i) session_type then of_voter (session_voter i) otherwise 0
 
 -- of item k of a board
 unfoldable pub by_address : List ℕ → ℕ → ℕ

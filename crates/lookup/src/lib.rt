@@ -4,7 +4,7 @@
 #![tactic(auto)]
 
 ghost use Rattle.std.specs.Prelude.{◌≡◌, ◌+◌, ◌-◌, ◌≤◌, length, eqb};
-ghost use Rattle.model.specs.Lists.{if◌then◌else◌, any};
+ghost use Rattle.model.specs.Lists.{if◌then◌otherwise◌, any};
 ghost use Rattle.model.specs.Words.{main_kind};
 ghost use Rattle.model.specs.Codes.{session_type};
 ghost use Rattle.model.specs.History.{entry, first, last, parent_number, session_number, child_of};
@@ -164,7 +164,7 @@ fn is_child(board: &[u32], index: &[u32], count: usize, k: usize, parent: usize,
 
 // The number from which on the children of a parent are sought: no item stands before its parent, and item numbers begin with 1.
 fn first_child(parent: usize) -> usize
-    ensures { result ≡ (if eqb parent 0 then 1 else parent) }
+    ensures { result ≡ (if eqb parent 0 then 1 otherwise parent) }
 {
     if parent == 0 {
         return 1;
@@ -190,7 +190,7 @@ pub fn has_child(board: &[u32], index: &[u32], count: usize, parent: usize, code
 // How many main items are left to pass, where the last of them is sought: one less after a main item.
 fn left_after(e: Known, left: usize) -> usize
     requires { 1 ≤ left }
-    ensures { result ≡ (if eqb e.item.head.kind main_kind then left - 1 else left) }
+    ensures { result ≡ (if eqb e.item.head.kind main_kind then left - 1 otherwise left) }
 {
     if e.item.head.kind == Head::MAIN {
         return left - 1;

@@ -13,7 +13,7 @@ use lib.Arith.{lt→nleb}
 use lib.ListN.{length, get_or, take, length-append, length-map, get_or-eq_default}
 use lib.Seq.{take-append_seam}
 use lib.Dec.{T, eqb, leb, le→leb}
-use Rattle.model.specs.Lists.{if◌then◌else◌, part, any, count, tabulate}
+use Rattle.model.specs.Lists.{if◌then◌otherwise◌, part, any, count, tabulate}
 use Rattle.model.specs.Words.{same_words}
 use Rattle.model.specs.Codes.{cast_type}
 use Rattle.model.specs.Refusal.{short_table, bad_receipts}
@@ -243,7 +243,7 @@ module _ {f : Format} {on : Eligibility} {ws vs : List ℕ} (h : History) (e : E
       ∙ ap (λ (k : ℕ). main_number longer k + 1) before ∙ ap (λ (g : History). count main g + 1) (take-append_seam h (e ∷ []))
 
   pub receipt-more : length h < item_limit → (r : Receipt)
-      → receipt_answer r longer ≡ (if eqb (receipt_answer r h) no_number && cast_of r e then count main h + 1 else receipt_answer r h)
+      → receipt_answer r longer ≡ (if eqb (receipt_answer r h) no_number && cast_of r e then count main h + 1 otherwise receipt_answer r h)
   receipt-more few r =
       let old = receipt_answer r h in
       answer-next r h e (subst (Every MainCast) (take-append_seam h (e ∷ [])) (every_take MainCast (length h) longer casts)) new-cast (omega arith)

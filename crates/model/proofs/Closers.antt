@@ -10,7 +10,7 @@ use mathlib.Core.List.{List, [], ◌∷◌, ◌++◌, append-nil, append_assoc}
 use lib.ListN.{length, length-append}
 use lib.Dec.{T, eqb, eqb→eq, eqb_refl}
 use borrow.Author.Tests.{eqb-true, eqb-false, eq-eqb, ne_eqb, not-false}
-use Rattle.model.specs.Lists.{if◌then◌else◌, any}
+use Rattle.model.specs.Lists.{if◌then◌otherwise◌, any}
 use Rattle.model.specs.Words.{code_of, between}
 use Rattle.model.specs.Codes.{ballot_type}
 use Rattle.model.specs.Format.{Format}
@@ -43,13 +43,13 @@ closes-own e t = (and-iff (cast_or_spoil (code e.item)) (eqb e.parent e.parent))
 module _ (h : History) (k : ℕ) where
   -- "4,294,967,295 for other items"
   pub closer-other : code (item_no h k) ≢ ballot_type → closer h k ≡ 0
-  unfolding closer if◌then◌else◌
+  unfolding closer if◌then◌otherwise◌
   closer-other n = rw (ne_eqb (code (item_no h k)) ballot_type n)
 
   -- what closed an item is a cast or spoil under it, and the item is a ballot
   pub closer-closes : closer h k ≢ 0
       → (code (item_no h k) ≡ ballot_type) × T (cast_or_spoil (code (item_no h (closer h k)))) × ((entry h (closer h k)).parent ≡ k)
-  unfolding closer if◌then◌else◌
+  unfolding closer if◌then◌otherwise◌
   closer-closes n =
       by-test (typed ballot_type (entry h k))
       (λ q. let c = first (closes k) h in
@@ -59,12 +59,12 @@ module _ (h : History) (k : ℕ) where
       (λ q. absurd (n (rw q)))
 
   pub closer-bound : closer h k ≤ length h
-  unfolding closer if◌then◌else◌
+  unfolding closer if◌then◌otherwise◌
   closer-bound = by-test (typed ballot_type (entry h k)) (λ q. rw q (first-bound (closes k) h)) (λ q. rw q zero-le)
 
 -- nothing stands under no item
 pub closer-none : (h : History) → closer h 0 ≡ 0
-unfolding closer entry code_of if◌then◌else◌
+unfolding closer entry code_of if◌then◌otherwise◌
 closer-none h = refl
 
 -- one item closes one ballot
@@ -84,7 +84,7 @@ module _ {f : Format} {on : Eligibility} {ws vs : List ℕ} {h : History} (b : P
 
   -- and is what closed it
   pub closer-of : (c : ℕ) → 1 ≤ c → c ≤ length h → T (between 20 21 (code (item_no h c))) → closer h (entry h c).parent ≡ c
-  unfolding closer entry if◌then◌else◌
+  unfolding closer entry if◌then◌otherwise◌
   closer-of zero o l t = absurd (not-suc-le-zero o)
   closer-of (suc c) o l t =
       let k = (entry h (suc c)).parent in
@@ -95,7 +95,7 @@ module _ {f : Format} {on : Eligibility} {ws vs : List ℕ} {h : History} (b : P
 
   -- "one of either under a ballot": whether there is one
   pub any-closer : (k : ℕ) → any (closes k) h ≡ not (eqb (closer h k) 0)
-  unfolding closer if◌then◌else◌
+  unfolding closer if◌then◌otherwise◌
   any-closer k =
       let c = first (closes k) h in
       by-test (typed ballot_type (entry h k))
@@ -114,14 +114,14 @@ module _ (h : History) (e : Entry) where
 
   -- an item that it does not close
   closer-kept : (k : ℕ) → k ≤ length h → closes k e ≡ false → closer longer k ≡ closer h k
-  unfolding closer if◌then◌else◌
+  unfolding closer if◌then◌otherwise◌
   closer-kept k l q =
       rw (entry-append h (e ∷ []) k l, first-snoc (closes k) h e, q)
       (by-test (eqb (first (closes k) h) 0) (λ s. rw (eqb-true (first (closes k) h) 0 s)) (λ s. rw s))
 
   -- an item that something closed
   closer-used : (k : ℕ) → k ≤ length h → closer h k ≢ 0 → closer longer k ≡ closer h k
-  unfolding closer if◌then◌else◌
+  unfolding closer if◌then◌otherwise◌
   closer-used k l n =
       let ballot = eq-eqb (code (item_no h k)) ballot_type (closer-closes h k n).0 in
       let some : first (closes k) h ≢ 0 = rw ballot at n in
@@ -129,7 +129,7 @@ module _ (h : History) (e : Entry) where
 
   -- an open ballot that it closes
   closer-set : (k : ℕ) → k ≤ length h → T (typed ballot_type (entry h k)) → closer h k ≡ 0 → closes k e ≡ true → closer longer k ≡ suc (length h)
-  unfolding closer if◌then◌else◌
+  unfolding closer if◌then◌otherwise◌
   closer-set k l t n q =
       let ballot = is_true (typed ballot_type (entry h k)) t in
       let none : first (closes k) h ≡ 0 = rw ballot at n in
@@ -155,7 +155,7 @@ module _ {f : Format} {on : Eligibility} {ws vs : List ℕ} {h : History} {v : L
 
   -- nothing closed it
   pub closer-new : closer (longer h new) (suc (length h)) ≡ 0
-  unfolding closer if◌then◌else◌ entry_of
+  unfolding closer if◌then◌otherwise◌ entry_of
   closer-new =
       let n = suc (length h) in
       let p = first (closes n) h in

@@ -4,7 +4,7 @@ use Prim.Native.Nat.{ℕ}
 use mathlib.Core.Path.{◌≡◌, refl, ap, subst, ◌∙◌}
 use mathlib.Core.List.{List, [], ◌∷◌, ◌++◌, append_assoc}
 use lib.Dec.{T}
-use Rattle.model.specs.Lists.{if◌then◌else◌, any}
+use Rattle.model.specs.Lists.{if◌then◌otherwise◌, any}
 use Rattle.model.specs.Refusal.{no_fault}
 use Rattle.model.specs.Reasons.{Reason, NoneOf, FirstOf}
 use Rattle.model.proofs.Tests.{by-test, neither, if_yes}
@@ -12,9 +12,9 @@ use Rattle.model.proofs.Lists.{Every, any_append}
 
 -- its number, 0 where none applies
 unfoldable pub first_number : List Reason → ℕ
-unfolding if◌then◌else◌
+unfolding if◌then◌otherwise◌
 first_number [] = no_fault
-first_number (r ∷ rs) = if r.applies then r.number else first_number rs
+first_number (r ∷ rs) = if r.applies then r.number otherwise first_number rs
 
 -- none applies, or one is the first
 pub by_first : {X : Type 0} (rs : List Reason) → (NoneOf rs → X) → ((n : ℕ) → FirstOf rs n → X) → X

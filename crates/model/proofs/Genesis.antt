@@ -11,7 +11,7 @@ use lib.ListN.{length, get_or, take, drop, length-take, length-drop, get_or-eq_d
 use lib.Seq.{get_or-take, get_or-drop, take_all}
 use lib.Dec.{T, eqb, ltb, eqb→eq}
 use borrow.Author.Tests.{eqb-true, eqb-false, eq-eqb, le-leb}
-use Rattle.model.specs.Lists.{if◌then◌else◌, ◌⇒◌, part, keep}
+use Rattle.model.specs.Lists.{if◌then◌otherwise◌, ◌⇒◌, part, keep}
 use Rattle.model.specs.Words.{kind_of, code_of, count_of, pair, member, size, all_in, low_zero}
 use Rattle.model.specs.Format.{Format, Hashes}
 use Rattle.model.specs.Traits.{traits_head, traits_known, traits_of, format_with, format_of}
@@ -60,7 +60,7 @@ module _ {f : Format} {on : Eligibility} {v : List ℕ} {i : Item} (m : Meets f 
 
 -- the traits of the item at the beginning of the words ws, where it may stand
 traits-at : {f : Format} {on : Eligibility} {v : List ℕ} (ws : List ℕ) → Meets f on [] v (item_at f ws 0) → traits_of ws ≡ genesis_traits (item_at f ws 0)
-unfolding traits_of item_at part if◌then◌else◌
+unfolding traits_of item_at part if◌then◌otherwise◌
 traits-at ws m =
     let n = count_of (get_or ws 0 0) in
     let range = counts m in

@@ -8,7 +8,7 @@ use mathlib.Core.Bool.{Bool, true, false, not, ◌&&◌, ◌||◌}
 use mathlib.Core.List.{List, [], ◌∷◌, ◌++◌, map, map-append}
 use lib.ListN.{length, length-map, length-append}
 use lib.Dec.{T, eqb, leb, eqb→eq, leb→le}
-use Rattle.model.specs.Lists.{if◌then◌else◌, ◌⇒◌, any, count, keep}
+use Rattle.model.specs.Lists.{if◌then◌otherwise◌, ◌⇒◌, any, count, keep}
 use Rattle.model.specs.Words.{between, closing_word}
 use Rattle.model.specs.Format.{Format}
 use Rattle.model.specs.Item.{Item, code, is_main, time, word, unsigned, words_of}
@@ -333,7 +333,7 @@ module _ {f : Format} {on : Eligibility} {us ts v : List ℕ} {g : History} {i :
   new = entry_of g (length us) i
 
   with-main : T (is_main i) → MainPart f on (us ++ words_of i) (g ++ (new ∷ []))
-  unfolding if◌then◌else◌ entry_of
+  unfolding if◌then◌otherwise◌ entry_of
   with-main t =
       let e = entry_of p.history (length p.words) i in
       let one = is_true (is_main i) t in
@@ -349,7 +349,7 @@ module _ {f : Format} {on : Eligibility} {us ts v : List ℕ} {g : History} {i :
       }
 
   with-hidden : is_main i ≡ false → MainPart f on (us ++ words_of i) (g ++ (new ∷ []))
-  unfolding if◌then◌else◌ entry_of
+  unfolding if◌then◌otherwise◌ entry_of
   with-hidden q =
       let same : main_items (g ++ (new ∷ [])) ≡ main_items g = rw (main_items-snoc g new, q) in
       record {

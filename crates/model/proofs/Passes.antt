@@ -11,7 +11,7 @@ use lib.ListN.{length, get_or}
 use lib.Seq.{take_all}
 use lib.Dec.{T, eqb, leb, ltb, eqb→eq}
 use borrow.Author.Tests.{eqb-true}
-use Rattle.model.specs.Lists.{if◌then◌else◌, ◌⇒◌, any, has, keep, latest}
+use Rattle.model.specs.Lists.{if◌then◌otherwise◌, ◌⇒◌, any, has, keep, latest}
 use Rattle.model.specs.Words.{code_of, member, size, all_in, low_zero, same_words}
 use Rattle.model.specs.Format.{Format, Hashes, secp256r1, secp384r1, secp521r1, format_on}
 use Rattle.model.specs.Traits.{format_of}
@@ -231,7 +231,7 @@ module _ {A B : Type 0} (q : A → Bool) (f : A → B) (r : B → B → Bool) (p
   further x xs (k, (l, a, b, s)) = (suc k, (suc-le-suc l, a, b, last-next x xs k s))
 
   stays : (xs : List A) → T (any p (latest r (keep q f xs))) → (k : ℕ) × Stays xs k
-  unfolding any keep latest if◌then◌else◌
+  unfolding any keep latest if◌then◌otherwise◌
   stays [] = λ t. absurd t
   stays (x ∷ xs) =
       let Found : Type 0 = (k : ℕ) × Stays (x ∷ xs) k in
@@ -243,7 +243,7 @@ module _ {A B : Type 0} (q : A → Bool) (f : A → B) (r : B → B → Bool) (p
       (λ a t. further x xs (stays xs t))
 
   standing : (xs : List A) (k : ℕ) → Stays xs k → T (any p (latest r (keep q f xs)))
-  unfolding any keep latest if◌then◌else◌
+  unfolding any keep latest if◌then◌otherwise◌
   standing [] k (l, a, b, s) = absurd (not-suc-le-zero l)
   standing (x ∷ xs) zero (l, a, b, s) =
       by-if (λ (ys : List B). T (any p (latest r ys))) (q x) _ _

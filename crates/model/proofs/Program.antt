@@ -12,7 +12,7 @@ use lib.ListN.{length, get_or, take, length-append, length-take}
 use lib.Seq.{take_all}
 use lib.Dec.{T, eqb, eqb→eq, leb, ltb}
 use borrow.Author.Tests.{ltb-false, leb-false, eqb-true, eqb-false, eq-eqb, ne_eqb}
-use Rattle.model.specs.Lists.{if◌then◌else◌, count, keep, latest}
+use Rattle.model.specs.Lists.{if◌then◌otherwise◌, count, keep, latest}
 use Rattle.model.specs.Words.{count_of}
 use Rattle.model.specs.Refusal.{too_large, truncated, bad_roll}
 use Rattle.model.specs.Format.{Format, verdict_size}
@@ -242,7 +242,7 @@ high-byte-first = refl
 
 -- "Empty files print the single line `refused 3 at 0`."
 pub empty-printed : (f : Format) → printed f [] [] [] ≡ 114 ∷ 101 ∷ 102 ∷ 117 ∷ 115 ∷ 101 ∷ 100 ∷ 32 ∷ 51 ∷ 32 ∷ 97 ∷ 116 ∷ 32 ∷ 48 ∷ 10 ∷ []
-unfolding files_outcome size_fault sized audit is_bad_roll electors rising text_of refused_line spaced digits from_bytes if◌then◌else◌
+unfolding files_outcome size_fault sized audit is_bad_roll electors rising text_of refused_line spaced digits from_bytes if◌then◌otherwise◌
 empty-printed f = refl
 
 -- one item is genesis
@@ -277,7 +277,7 @@ genesis-words {f} {on} (next ws vs h v i p m) one =
 pub genesis-printed : (f : Format) (board verdicts roll : List ℕ) {h : History} → item_length f 18 < program_limit
     → WholeFiles f board verdicts roll → Sound f (from_bytes board) (from_bytes verdicts) (from_bytes roll) h → length h ≡ 1
     → printed f board verdicts roll ≡ 97 ∷ 99 ∷ 99 ∷ 101 ∷ 112 ∷ 116 ∷ 101 ∷ 100 ∷ 32 ∷ 49 ∷ 32 ∷ 49 ∷ 32 ∷ 48 ∷ 32 ∷ 48 ∷ 10 ∷ []
-unfolding accepted_line spaced digits if◌then◌else◌
+unfolding accepted_line spaced digits if◌then◌otherwise◌
 genesis-printed f board verdicts roll {h} fits whole s one =
     let short : length (from_bytes board) ≤ program_limit =
     omega (arith, genesis-words s.passed one, simp length-append at (ap length s.closed)) in

@@ -12,7 +12,7 @@ use mathlib.Core.List.{List, [], ◌∷◌, map}
 use lib.ListN.{length, get_or}
 use lib.Dec.{T, eqb, leb, nleb→lt}
 use borrow.Author.Tests.{eqb-true, eqb-false}
-use Rattle.model.specs.Lists.{if◌then◌else◌, any}
+use Rattle.model.specs.Lists.{if◌then◌otherwise◌, any}
 use Rattle.model.specs.Words.{is_closing}
 use Rattle.model.specs.Refusal.{no_fault, too_large, empty_board, truncated, bad_roll}
 use Rattle.model.specs.Format.{Format}
@@ -42,7 +42,7 @@ not_first rs r rest e u = ((neither r.applies (any (λ s. s.applies) rest)).0 (s
 
 module _ (f : Format) (on : Eligibility) (ws vs : List ℕ) (k : ℕ) where
   by_row : (row : Option Row) → row_of f (get_or ws (place_of f ws k) 0) ≡ row
-      → first_number (item_reasons f on ws vs k) ≡ (if leb item_limit k then too_large else fault_in f on ws vs row (history f ws k) (place_of f ws k))
+      → first_number (item_reasons f on ws vs k) ≡ (if leb item_limit k then too_large otherwise fault_in f on ws vs row (history f ws k) (place_of f ws k))
   unfolding item_reasons listed_with first_number fault_in head_fault checks unmet
   by_row none q = rw q
   by_row (some r) q = rw (q, unmet-number)
@@ -104,8 +104,8 @@ module _ (f : Format) (on : Eligibility) (ws vs : List ℕ) (k : ℕ) where
 
 -- before the items
 start_answer : ℕ → Outcome → Outcome
-unfolding if◌then◌else◌
-start_answer n o = if eqb n no_fault then o else if eqb n bad_roll then refused bad_roll 0 else if eqb n empty_board then refused empty_board 0 else unread n
+unfolding if◌then◌otherwise◌
+start_answer n o = if eqb n no_fault then o otherwise if eqb n bad_roll then refused bad_roll 0 otherwise if eqb n empty_board then refused empty_board 0 otherwise unread n
 
 start-unread : (n : ℕ) (o : Outcome) → n ≢ no_fault → n ≢ bad_roll → n ≢ empty_board → start_answer n o ≡ unread n
 unfolding start_answer

@@ -7,7 +7,7 @@ use mathlib.Core.List.{[], ◌∷◌, ◌++◌}
 use lib.ListN.{length, take, length-take}
 use lib.Dec.{T, eqb}
 use borrow.Author.Tests.{eq-eqb, ne_eqb, eqb-true, eqb-false}
-use Rattle.model.specs.Lists.{if◌then◌else◌, count}
+use Rattle.model.specs.Lists.{if◌then◌otherwise◌, count}
 use Rattle.model.specs.Codes.{cast_type}
 use Rattle.model.specs.History.{History, Entry, entry, main, typed, main_number, first}
 use Rattle.model.specs.Audit.{item_limit}
@@ -44,18 +44,18 @@ module _ (p : Entry → Bool) where
 
     -- what was found stays
     stays : 1 ≤ first p h → answer longer ≡ answer h
-    unfolding if◌then◌else◌
+    unfolding if◌then◌otherwise◌
     stays l =
         let found : first p longer ≡ first p h = first-snoc p h e ∙ rw (ne_eqb (first p h) 0 (λ z. omega arith)) in
         ap number_word (ap (main_number longer) found ∙ main-number-append h (e ∷ []) (first p h) (first-bound p h))
 
     -- else the new item may be it
     none-new : first p h ≡ 0 → p e ≡ false → answer longer ≡ answer h
-    unfolding if◌then◌else◌
+    unfolding if◌then◌otherwise◌
     none-new z q = nothing longer (first-snoc p h e ∙ rw (eq-eqb (first p h) 0 z, q)) ∙ sym (nothing h z)
 
     new : first p h ≡ 0 → (T (p e) → T (main e)) → p e ≡ true → answer longer ≡ main_number longer (suc (length h))
-    unfolding if◌then◌else◌
+    unfolding if◌then◌otherwise◌
     new z own q =
         let k = suc (length h) in
         let found : first p longer ≡ k = first-snoc p h e ∙ rw (eq-eqb (first p h) 0 z, q) in
@@ -63,8 +63,8 @@ module _ (p : Entry → Bool) where
         ap (λ (n : ℕ). number_word (main_number longer n)) found ∙ number-some (main_number longer k) (omega (arith, main-next longer k is))
 
     search-next : OnlyMain p h → (T (p e) → T (main e)) → length h ≤ item_limit
-        → answer longer ≡ (if eqb (answer h) no_number && p e then main_number longer (suc (length h)) else answer h)
-    unfolding if◌then◌else◌
+        → answer longer ≡ (if eqb (answer h) no_number && p e then main_number longer (suc (length h)) otherwise answer h)
+    unfolding if◌then◌otherwise◌
     search-next only own few =
         by-test (eqb (first p h) 0)
         (λ z.
@@ -80,7 +80,7 @@ module _ (p : Entry → Bool) where
 -- the answer to a receipt, where casts are main items: one that was found stays, and else the new item may be its cast
 pub answer-next : (r : Receipt) (h : History) (e : Entry) → OnlyMain (typed cast_type) h → (T (typed cast_type e) → T (main e)) → length h ≤ item_limit
     → let longer = h ++ (e ∷ []) in
-    receipt_answer r longer ≡ (if eqb (receipt_answer r h) no_number && cast_of r e then main_number longer (suc (length h)) else receipt_answer r h)
+    receipt_answer r longer ≡ (if eqb (receipt_answer r h) no_number && cast_of r e then main_number longer (suc (length h)) otherwise receipt_answer r h)
 unfolding receipt_answer
 answer-next r h e only own few =
     let cast : (x : Entry) → T (cast_of r x) → T (typed cast_type x) = λ x t. ((and-iff (typed cast_type x) (matches r x.item)).0 t).0 in

@@ -11,7 +11,7 @@ use lib.ListN.{length, get_or}
 use lib.Arith.{le→nltb}
 use lib.Dec.{T, eqb, ltb, eqb→eq, eqb_refl, ltb→lt, nltb→le, lt→ltb}
 use borrow.Author.Tests.{ne_eqb}
-use Rattle.model.specs.Lists.{if◌then◌else◌, ◌⇒◌, any, has, distinct}
+use Rattle.model.specs.Lists.{if◌then◌otherwise◌, ◌⇒◌, any, has, distinct}
 use Rattle.model.specs.Format.{Format}
 use Rattle.model.specs.Item.{Item, code}
 use Rattle.model.specs.History.{History, item_no, typed, session_voter, session_weight}
@@ -80,12 +80,12 @@ good-rising roll t = (simp (neither, not-not) at t).1
 
 -- the first pair of a voter and a weight taken away
 take_away : ℕ → ℕ → List Elector → List Elector
-unfolding if◌then◌else◌
+unfolding if◌then◌otherwise◌
 take_away v w [] = []
-take_away v w (e ∷ es) = if names v w e then es else e ∷ take_away v w es
+take_away v w (e ∷ es) = if names v w e then es otherwise e ∷ take_away v w es
 
 away-weight : (v w : ℕ) (es : List Elector) → T (any (names v w) es) → roll_weight es ≡ w + roll_weight (take_away v w es)
-unfolding any take_away roll_weight if◌then◌else◌
+unfolding any take_away roll_weight if◌then◌otherwise◌
 away-weight v w [] t = absurd t
 away-weight v w (e ∷ es) t =
     by-test (names v w e)
@@ -93,7 +93,7 @@ away-weight v w (e ∷ es) t =
     (λ q. let rest = away-weight v w es (rw q at t) in rw q (omega arith))
 
 away-other : (v w u x : ℕ) (es : List Elector) → u ≢ v → T (any (names u x) es) → T (any (names u x) (take_away v w es))
-unfolding any take_away if◌then◌else◌
+unfolding any take_away if◌then◌otherwise◌
 away-other v w u x [] n t = t
 away-other v w u x (e ∷ es) n t =
     by-test (names v w e)

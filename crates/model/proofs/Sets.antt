@@ -13,7 +13,7 @@ use lib.ListN.{length, get_or, get_or-eq_default}
 use lib.Count.{ones_in}
 use lib.Dec.{T, eqb}
 use borrow.Author.Tests.{eqb-true, eqb-false}
-use Rattle.model.specs.Lists.{if◌then◌else◌}
+use Rattle.model.specs.Lists.{if◌then◌otherwise◌}
 use Rattle.model.specs.Words.{bit, in_words, member, size, every_below, count_below, all_in}
 use Rattle.model.specs.Types.{set_and_each, fits}
 use Rattle.model.proofs.Tests.{by-test, passes, and-iff, implies-iff, facts}
@@ -40,7 +40,7 @@ module _ (p : ℕ → Bool) where
   count_below-add m zero = rw (add-zero, add-zero)
   count_below-add m (suc n) = rw (add-suc, count_below-add m n) (omega arith)
 
-  count_below-low : (n : ℕ) → count_below (suc n) p ≡ (if p 0 then 1 else 0) + count_below n (λ j. p (suc j))
+  count_below-low : (n : ℕ) → count_below (suc n) p ≡ (if p 0 then 1 otherwise 0) + count_below n (λ j. p (suc j))
   unfolding count_below
   count_below-low zero = refl
   count_below-low (suc n) = rw (count_below-low n) (omega arith)
@@ -65,7 +65,7 @@ unfolding bit
 bit-half w j = rw (pow-succ', ← div-div-eq-div-mul)
 
 ones-count : (d w : ℕ) → ones_in d w ≡ count_below d (bit w)
-unfolding ones_in count_below if◌then◌else◌
+unfolding ones_in count_below if◌then◌otherwise◌
 ones-count zero w = refl
 ones-count (suc d) w =
     rw (count_below-low (bit w) d, count_below-ext d (λ j. bit w (suc j)) (bit (w / 2)) (bit-half w), ← ones-count d (w / 2), bit-low w)

@@ -8,7 +8,7 @@ use mathlib.Core.List.{List, [], ◌∷◌, ◌++◌, append_assoc}
 use lib.ListN.{length, get_or, set, drop, replicate, length-append, length-set, length-replicate, get_or-append}
 use lib.Seq.{sets, sets-eq, set-append_left, get_or-append-add, drop-append-add, take-append_seam}
 use borrow.Author.Tests.{ne_eqb}
-use Rattle.model.specs.Lists.{if◌then◌else◌}
+use Rattle.model.specs.Lists.{if◌then◌otherwise◌}
 use Rattle.model.specs.History.{History, Entry, absent}
 use Rattle.model.specs.Counted.{Vote}
 use Rattle.model.specs.Audit.{index_row, ballot_row}
@@ -48,11 +48,11 @@ get_or-index_rows h k c l i =
 
 -- the word of an item number
 pub number-some : (n : ℕ) → 1 ≤ n → number_word n ≡ n
-unfolding number_word if◌then◌else◌
+unfolding number_word if◌then◌otherwise◌
 number-some n l = rw (ne_eqb n 0 (λ z. omega arith))
 
 pub number-none : number_word 0 ≡ no_number
-unfolding number_word if◌then◌else◌
+unfolding number_word if◌then◌otherwise◌
 number-none = refl
 
 pub number-used : (n : ℕ) → number_word n ≢ no_number → n ≢ 0

@@ -11,7 +11,7 @@ use lib.Dec.{T, eqb}
 use lib.ListN.{length, get_or, take, get_or-eq_default}
 use lib.Seq.{get_or-take, take-append_seam}
 use borrow.Author.Tests.{eq-eqb}
-use Rattle.model.specs.Lists.{if◌then◌else◌}
+use Rattle.model.specs.Lists.{if◌then◌otherwise◌}
 use Rattle.model.specs.Format.{Format, Hashes, Curve, secp256r1, secp384r1, secp521r1, format_on}
 use Rattle.model.specs.Traits.{traits_head, traits_place, set_words, curve_number, curve_of, traits_known, traits_of, format_with, format_of}
 use Rattle.model.specs.Item.{item_length, hashed_length}
@@ -32,7 +32,7 @@ pub known-few : (t : ℕ) → T (traits_known t) ↔ (t < 6)
 known-few t = (known-low t, low-known t)
 
 pub traits-read : (ws : List ℕ) → get_or ws 0 0 ≡ traits_head → get_or ws traits_place 0 < 6 → traits_of ws ≡ get_or ws traits_place 0
-unfolding traits_of if◌then◌else◌
+unfolding traits_of if◌then◌otherwise◌
 traits-read ws head few =
     let t = get_or ws traits_place 0 in
     rw (eq-eqb (get_or ws 0 0) traits_head head, is_true (traits_known t) (low-known t few))
@@ -54,7 +54,7 @@ formats s =
     format_on s secp256r1 1 ∷ format_on s secp256r1 8 ∷ format_on s secp384r1 1 ∷ format_on s secp384r1 8 ∷ format_on s secp521r1 1 ∷ format_on s secp521r1 8 ∷ []
 
 with-traits : (s : Hashes) (t : ℕ) → t < 6 → format_with s t ≡ get_or (formats s) t (format_on s secp256r1 1)
-unfolding curve_of set_words if◌then◌else◌
+unfolding curve_of set_words if◌then◌otherwise◌
 with-traits s zero l = refl
 with-traits s (suc zero) l = refl
 with-traits s (suc (suc zero)) l = refl
@@ -65,7 +65,7 @@ with-traits s (suc (suc (suc (suc (suc (suc t)))))) l = absurd (omega arith)
 
 module _ (s : Hashes) (ws : List ℕ) where
   pub board-format : get_or ws 0 0 ≡ traits_head → format_of s ws ≡ get_or (formats s) (get_or ws traits_place 0) (format_on s secp256r1 1)
-  unfolding curve_of set_words if◌then◌else◌
+  unfolding curve_of set_words if◌then◌otherwise◌
   board-format head =
       let t = get_or ws traits_place 0 in
       by_cases (dec_lt t 6)
@@ -74,7 +74,7 @@ module _ (s : Hashes) (ws : List ℕ) where
       ap (format_with s) (traits-none ws (λ h. omega arith)) ∙ sym (get_or-eq_default (formats s) (format_on s secp256r1 1) past))
 
   pub other-board : get_or ws 0 0 ≢ traits_head → format_of s ws ≡ format_on s secp256r1 1
-  unfolding curve_of set_words if◌then◌else◌
+  unfolding curve_of set_words if◌then◌otherwise◌
   other-board n = ap (format_with s) (traits-none ws (λ h. absurd (n h)))
 
 -- ---- so there are three curves and two widths of sets
@@ -145,14 +145,14 @@ module _ (s : Hashes) (w n : ℕ) where
 
 -- a curve's hash is told by its address width
 hash-told : (s : Hashes) (n : ℕ) → let c = curve_of n in
-    c.hash s ≡ (if eqb c.address 12 then s.sha384 else if eqb c.address 16 then s.sha512 else s.sha256)
-unfolding if◌then◌else◌
-hash-told s = by-curve (λ (c : Curve). c.hash s ≡ (if eqb c.address 12 then s.sha384 else if eqb c.address 16 then s.sha512 else s.sha256)) refl refl refl
+    c.hash s ≡ (if eqb c.address 12 then s.sha384 otherwise if eqb c.address 16 then s.sha512 otherwise s.sha256)
+unfolding if◌then◌otherwise◌
+hash-told s = by-curve (λ (c : Curve). c.hash s ≡ (if eqb c.address 12 then s.sha384 otherwise if eqb c.address 16 then s.sha512 otherwise s.sha256)) refl refl refl
 
 pub one-hash : (s : Hashes) (ws us : List ℕ) → (format_of s ws).address ≡ (format_of s us).address → (format_of s ws).hash ≡ (format_of s us).hash
 one-hash s ws us e =
     hash-told s (curve_number (traits_of ws))
-    ∙ ap (λ (n : ℕ). if eqb n 12 then s.sha384 else if eqb n 16 then s.sha512 else s.sha256) e
+    ∙ ap (λ (n : ℕ). if eqb n 12 then s.sha384 otherwise if eqb n 16 then s.sha512 otherwise s.sha256) e
     ∙ sym (hash-told s (curve_number (traits_of us)))
 
 -- ---- the format depends on the first 19 words

@@ -1,7 +1,7 @@
 -- The entry that compares two boards: its answer, and what the four buffers hold after it, in every case.
 -- Paper: "Comparing takes a kept board"; demand 3. Assumes nothing.
 use Rattle.std.specs.Prelude.{ℕ, min, ◌≡◌, ◌↔◌, List, length}
-use Rattle.model.specs.Lists.{if◌then◌else◌, count}
+use Rattle.model.specs.Lists.{if◌then◌otherwise◌, count}
 use Rattle.model.specs.Refusal.{no_such_item}
 use Rattle.model.specs.Format.{Format}
 use Rattle.model.specs.History.{History, main, main_items, main_item, end_address}
@@ -24,10 +24,10 @@ pub data ComparingAnswer : Type 0 where
 
 -- the kept board is accepted with the history g. "Main number 0 or any past the last is 19, naming the later board and its item count"
 unfoldable pub answer_later : History → Outcome → ℕ → ComparingAnswer
-unfolding if◌then◌else◌
+unfolding if◌then◌otherwise◌
 answer_later g later b =
     answered (refused_board later_board)
-    (λ h. if outside b (count main h) then refused_board later_board no_such_item (length h) else compared (compare (main_items g) (main_items h) b))
+    (λ h. if outside b (count main h) then refused_board later_board no_such_item (length h) otherwise compared (compare (main_items g) (main_items h) b))
     later
 
 -- "a refusal names the board and stops there"

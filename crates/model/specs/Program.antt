@@ -2,7 +2,7 @@
 -- Paper: "The auditing program"; "Words on the shelf" (files); request (i) ("the program reads roll.words by the rules of its other files").
 -- Assumes nothing.
 use Rattle.std.specs.Prelude.{ℕ, zero, suc, ◌+◌, ◌-◌, ◌*◌, ◌/◌, ◌%◌, ◌^◌, Bool, not, ◌&&◌, List, [], ◌∷◌, ◌++◌, length, eqb, ltb}
-use Rattle.model.specs.Lists.{if◌then◌else◌, count}
+use Rattle.model.specs.Lists.{if◌then◌otherwise◌, count}
 use Rattle.model.specs.Refusal.{no_fault, too_large, truncated}
 use Rattle.model.specs.Format.{Format}
 use Rattle.model.specs.History.{main}
@@ -53,11 +53,11 @@ are_whole board verdicts roll = is_whole board && is_whole verdicts && is_whole 
 -- the refusal of the files' sizes, from their byte counts. "if either file's byte count isn't a multiple of 4, it is refused as 4", with
 -- roll.words of any of the three, before "a board of at most 16,384 words (more is refused as 1)"
 unfoldable pub size_fault : (board verdicts roll : ℕ) → ℕ
-unfolding if◌then◌else◌
+unfolding if◌then◌otherwise◌
 size_fault board verdicts roll =
     if not (are_whole board verdicts roll) then truncated
-    else if ltb program_limit (board / bytes_per_word) then too_large
-    else no_fault
+    otherwise if ltb program_limit (board / bytes_per_word) then too_large
+    otherwise no_fault
 
 -- a refusal for the sizes comes with 0 items, and else the outcome o stands
 unfoldable pub sized : ℕ → Outcome → Outcome
@@ -97,9 +97,9 @@ digit d = 48 + d
 
 -- the decimal digits of a number n that has at most k + 1 of them
 unfoldable pub digits : ℕ → ℕ → List ℕ
-unfolding if◌then◌else◌
+unfolding if◌then◌otherwise◌
 digits zero n = digit (n % 10) ∷ []
-digits (suc k) n = if ltb n 10 then digit n ∷ [] else digits k (n / 10) ++ (digit (n % 10) ∷ [])
+digits (suc k) n = if ltb n 10 then digit n ∷ [] otherwise digits k (n / 10) ++ (digit (n % 10) ∷ [])
 
 -- all of them: n has at most n + 1
 abbrev pub decimal : ℕ → List ℕ

@@ -1,7 +1,7 @@
 -- The format of a board, by its own words: "Widths are read before all else from the traits word of a first item with head 10010012".
 -- Paper: requests (v) and (ix). Assumes nothing.
 use Rattle.std.specs.Prelude.{ℕ, ◌/◌, ◌%◌, ◌^◌, Bool, not, ◌&&◌, List, get_or, eqb}
-use Rattle.model.specs.Lists.{if◌then◌else◌}
+use Rattle.model.specs.Lists.{if◌then◌otherwise◌}
 use Rattle.model.specs.Format.{Format, Hashes, Curve, secp256r1, secp384r1, secp521r1, format_on}
 
 -- "A genesis of 18 words carries a traits word at its end": the head of such a genesis, and the place of that word on a board that it opens
@@ -13,7 +13,7 @@ traits_place = 18
 
 -- "bit 0 set makes every contest set eight words long"
 unfoldable pub set_words : ℕ → ℕ
-set_words t = if eqb (t % 2) 1 then 8 else 1
+set_words t = if eqb (t % 2) 1 then 8 otherwise 1
 
 -- "Bits 1 and 2 of the traits word, as a number, choose"
 abbrev pub curve_number : ℕ → ℕ
@@ -21,7 +21,7 @@ curve_number t = t / 2 % 4
 
 -- "0 SHA-256, 1 SHA-384, 2 SHA-512"
 unfoldable pub curve_of : ℕ → Curve
-curve_of n = if eqb n 1 then secp384r1 else if eqb n 2 then secp521r1 else secp256r1
+curve_of n = if eqb n 1 then secp384r1 otherwise if eqb n 2 then secp521r1 otherwise secp256r1
 
 -- "Other trait bits set give 13", and as the number of a curve "3 gives 13"
 unfoldable pub traits_known : ℕ → Bool
@@ -31,7 +31,7 @@ traits_known t = eqb (t / 2 ^ 3) 0 && not (eqb (curve_number t) 3)
 unfoldable pub traits_of : List ℕ → ℕ
 traits_of ws =
     let t = get_or ws traits_place 0 in
-    if eqb (get_or ws 0 0) traits_head && traits_known t then t else 0
+    if eqb (get_or ws 0 0) traits_head && traits_known t then t otherwise 0
 
 -- the format that traits give, and the format of a board
 abbrev pub format_with : Hashes → ℕ → Format

@@ -10,7 +10,7 @@ use mathlib.Core.List.{List, [], ◌∷◌, map}
 use lib.ListN.{length, get_or}
 use lib.Dec.{T, eqb, leb, ltb}
 use borrow.Author.Tests.{eqb-true, eqb-false, ltb-false}
-use Rattle.model.specs.Lists.{if◌then◌else◌, any, has}
+use Rattle.model.specs.Lists.{if◌then◌otherwise◌, any, has}
 use Rattle.model.specs.Words.{kind_of, code_of, count_of, is_closing}
 use Rattle.model.specs.Refusal.{no_fault, too_large, wrong_count}
 use Rattle.model.specs.Format.{Format, Hashes, secp256r1, format_on}
@@ -50,7 +50,7 @@ option-now none = none
 option-now (some r) = some (row_now r)
 
 row-in-now : (k c : ℕ) (rs : List Before.Row) → row_in k c (map row_now rs) ≡ option-now (Before.row_in k c rs)
-unfolding row_in Before.row_in if◌then◌else◌
+unfolding row_in Before.row_in if◌then◌otherwise◌
 row-in-now k c [] = refl
 row-in-now k c (r ∷ rs) = by-test (eqb k r.kind && eqb c r.code) (λ q. rw q) (λ q. rw q (row-in-now k c rs))
 
@@ -76,15 +76,15 @@ module _ (s : Hashes) where
 
   module _ (w : ℕ) where
     first-row : is_genesis w ≡ true → row_of f w ≡ some first_now
-    unfolding row_of row_in if◌then◌else◌
+    unfolding row_of row_in if◌then◌otherwise◌
     first-row q = ap (row_in (kind_of w) (code_of w)) (table_before s) ∙ rw q
 
     was-first : is_genesis w ≡ true → Before.row_of f w ≡ some Before.first_row
-    unfolding Before.row_of Before.row_in if◌then◌else◌
+    unfolding Before.row_of Before.row_in if◌then◌otherwise◌
     was-first q = rw q
 
     other_row : is_genesis w ≡ false → row_of f w ≡ option-now (Before.row_of f w)
-    unfolding row_of row_in Before.row_of Before.row_in if◌then◌else◌
+    unfolding row_of row_in Before.row_of Before.row_in if◌then◌otherwise◌
     other_row q = ap (row_in (kind_of w) (code_of w)) (table_before s) ∙ rw q (row-in-now (kind_of w) (code_of w) (Before.other_rows f))
 
     -- type 1 is listed under kind 1 only
@@ -105,7 +105,7 @@ module _ (s : Hashes) where
       same-fault : (r : Before.Row) (c : Counts) → row_of f w ≡ some (with-counts r c) → fits c (count_of w) ≡ Before.fits r.counts (count_of w)
           → (Shaped f i → T (fits c (count_of w)) → genesis_ok i ≡ true)
           → fault_in f on ws vs (some (with-counts r c)) h p ≡ Before.fault_in f on ws vs (some r) h p
-      unfolding fault_in head_fault Before.fault_in checks Before.checks if◌then◌else◌ item_at
+      unfolding fault_in head_fault Before.fault_in checks Before.checks if◌then◌otherwise◌ item_at
       same-fault r c listed same old =
           by-test (fits c (count_of w))
           (λ q. rw (← same, q)
@@ -140,7 +140,7 @@ module _ (s : Hashes) where
 
       -- a genesis of 18 words: its count was not in the table,
       was-fault : count_of w ≡ 18 → Before.fault_in f on ws vs (some Before.first_row) h p ≡ wrong_count
-      unfolding Before.fault_in Before.fits if◌then◌else◌
+      unfolding Before.fault_in Before.fits if◌then◌otherwise◌
       was-fault e = rw e
 
       -- and behind another item it is now refused by a check up to 12
@@ -168,7 +168,7 @@ module _ (s : Hashes) where
     judged-same (suc k) h is was g = inl refl
 
     word_same : (h : History) (p : ℕ) (is was : Outcome) → Same is was → Same (word_at ws (closing_ok ws vs) h p is) (word_at ws (closing_ok ws vs) h p was)
-    unfolding word_at if◌then◌else◌
+    unfolding word_at if◌then◌otherwise◌
     word_same h p is was same =
         by-test (leb (length ws) p) (λ q. rw q (inl refl))
         (λ q. rw q (by-test (is_closing (get_or ws p 0)) (λ t. rw t (inl refl)) (λ t. rw t same)))
@@ -230,7 +230,7 @@ pub audit-before : (s : Hashes) (ws vs roll : List ℕ) (index ballots : ℕ) �
     → let is = audit (format_of s ws) ws vs roll index ballots in
     let was = Before.audit (format_on s secp256r1 1) ws vs roll index ballots in
     (is ≡ was) ⊎ LaterGenesis s ws was is
-unfolding audit Before.audit if◌then◌else◌
+unfolding audit Before.audit if◌then◌otherwise◌
 audit-before s ws vs roll index ballots other =
     rw (other-board s ws other)
     (by-test (is_too_large ws) (λ q. rw q (inl refl))

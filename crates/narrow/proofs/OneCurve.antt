@@ -13,7 +13,7 @@ use lib.ListN.{length, get_or, take, drop, length-take, get_or-eq_default}
 use lib.Seq.{get_or-take, get_or-drop}
 use lib.Dec.{T, eqb, leb, ltb, eqb→eq}
 use borrow.Author.Tests.{eqb-true, eqb-false, lt-ltb, le-ltb}
-use Rattle.model.specs.Lists.{if◌then◌else◌, part}
+use Rattle.model.specs.Lists.{if◌then◌otherwise◌, part}
 use Rattle.model.specs.Words.{kind_of, code_of, count_of, is_closing}
 use Rattle.model.specs.Refusal.{no_fault}
 use Rattle.model.specs.Format.{Format, Hashes, secp256r1, format_on}
@@ -62,7 +62,7 @@ today ws small head least =
     (λ l. omega arith)
 
 traits-same : (ws : List ℕ) → Today ws → traits_of ws ≡ Was.traits_of ws
-unfolding traits_of Was.traits_of if◌then◌else◌
+unfolding traits_of Was.traits_of if◌then◌otherwise◌
 traits-same ws other =
     by-test (eqb (get_or ws 0 0) traits_head)
     (λ q. rw (q, known_same (get_or ws traits_place 0) (other (eqb-true (get_or ws 0 0) traits_head q))))
@@ -76,7 +76,7 @@ was-few ws =
     (λ b. omega arith)
 
 with-few : (s : Hashes) (t : ℕ) → t < 2 → format_with s t ≡ format_on s secp256r1 (set_words t)
-unfolding curve_of if◌then◌else◌
+unfolding curve_of if◌then◌otherwise◌
 with-few s zero l = refl
 with-few s (suc zero) l = refl
 with-few s (suc (suc t)) l = absurd (omega arith)
@@ -127,7 +127,7 @@ module _ (f : Format) (on : Eligibility) (ws vs : List ℕ) where
     -- so it has the same fault
     fault-same : (r : Option Row) (n : ℕ) → let h = history f ws n in let p = place_of f ws n in At f on h p → row_of f (get_or ws p 0) ≡ r
         → fault_in f on ws vs r h p ≡ Was.fault_in f on ws vs r h p
-    unfolding fault_in head_fault Was.fault_in checks Was.checks first_unmet content_ok Was.content_ok if◌then◌else◌
+    unfolding fault_in head_fault Was.fault_in checks Was.checks first_unmet content_ok Was.content_ok if◌then◌otherwise◌
     fault-same none n a e = refl
     fault-same (some r) n a e =
         let h = history f ws n in
@@ -162,7 +162,7 @@ module _ (f : Format) (on : Eligibility) (ws vs : List ℕ) where
 -- a board that is not of a larger curve gets the answer that it got before
 pub audit-today : (s : Hashes) (ws vs roll : List ℕ) (index ballots : ℕ) → (LargerCurve ws → ⊥)
     → audit (format_of s ws) ws vs roll index ballots ≡ Was.audit (Was.format_of s ws) ws vs roll index ballots
-unfolding audit Was.audit if◌then◌else◌
+unfolding audit Was.audit if◌then◌otherwise◌
 audit-today s ws vs roll index ballots small =
     let other = today ws small in
     rw (format-same s ws other, all_same (Was.format_of s ws) (on_roll roll) ws vs other)

@@ -6,7 +6,7 @@ use Rattle.std.proofs.Math.Bool.{not}
 use Rattle.std.proofs.Math.Option.{Option, none, some}
 use Rattle.std.proofs.Math.Dec.{ltb}
 use Rattle.std.specs.Int.Count.{ones_in}
-use Rattle.model.specs.Lists.{if◌then◌else◌, ◌⇒◌, part, any, has}
+use Rattle.model.specs.Lists.{if◌then◌otherwise◌, ◌⇒◌, part, any, has}
 use Rattle.model.specs.Words.{kind_of, code_of, count_of, between, pair, low_zero, set_bits, bit, every_below, main_kind, hidden_kind}
 use Rattle.model.specs.Codes.{genesis_type, text_type, contest_type, threshold_type, authorizer_type, round_type, session_type}
 use Rattle.model.specs.Codes.{voter_commitment_type, server_commitment_type, ballot_type, cast_type, spoil_type}
@@ -182,9 +182,9 @@ content_ok f h i =
 -- ---- the audit
 
 unfoldable pub row_in : ℕ → ℕ → List Row → Option Row
-unfolding if◌then◌else◌
+unfolding if◌then◌otherwise◌
 row_in k c [] = none
-row_in k c (r ∷ rs) = if eqb k r.kind && eqb c r.code then some r else row_in k c rs
+row_in k c (r ∷ rs) = if eqb k r.kind && eqb c r.code then some r otherwise row_in k c rs
 
 -- the row of a head word: its type, listed under its kind. "Types 48 to 51 have kind 2, all others kind 1."
 unfoldable pub row_of : Format → ℕ → Option Row
@@ -213,12 +213,12 @@ checks f eligible h v r i =
 module _ (f : Format) (eligible : Eligibility) (ws vs : List ℕ) where
   -- "5, 6, 4, then 7 to 16 in order", with 21: the refusal of the item at place p after the history h, whose row of the table is given
   unfoldable pub fault_in : Option Row → History → ℕ → ℕ
-  unfolding if◌then◌else◌
+  unfolding if◌then◌otherwise◌
   fault_in none h p = unknown_type
   fault_in (some r) h p =
       if not (fits r.counts (count_of (get_or ws p 0))) then wrong_count
-      else if ltb (length ws) (behind f ws p) then truncated
-      else first_unmet (checks f eligible h (verdict_of vs h) r (item_at f ws p))
+      otherwise if ltb (length ws) (behind f ws p) then truncated
+      otherwise first_unmet (checks f eligible h (verdict_of vs h) r (item_at f ws p))
 
   abbrev pub fault : History → ℕ → ℕ
   fault h p = fault_in (row_of f (get_or ws p 0)) h p
@@ -232,13 +232,13 @@ module _ (f : Format) (eligible : Eligibility) (ws vs : List ℕ) where
 -- "Word limit, 2 and 3 come first. Then, item by item"; 20 "comes right after 2". With the roll, and with so many words in the index table and
 -- in the ballot table
 unfoldable pub audit : Format → (board verdicts roll : List ℕ) → (index ballots : ℕ) → Outcome
-unfolding if◌then◌else◌
+unfolding if◌then◌otherwise◌
 audit f ws vs roll index ballots =
     if is_too_large ws then unread too_large
-    else if is_short index ballots then unread short_table
-    else if is_bad_roll roll then refused bad_roll 0
-    else if is_empty ws then refused empty_board 0
-    else items f (on_roll roll) ws vs item_limit [] 0
+    otherwise if is_short index ballots then unread short_table
+    otherwise if is_bad_roll roll then refused bad_roll 0
+    otherwise if is_empty ws then refused empty_board 0
+    otherwise items f (on_roll roll) ws vs item_limit [] 0
 
 -- ---- what differs
 

@@ -5,7 +5,7 @@ use Rattle.std.specs.Prelude.{◌≡◌, ◌⊎◌, Bool, ◌&&◌, List, [], �
 use Rattle.std.proofs.Math.Bool.{not}
 use Rattle.std.proofs.Math.Option.{Option, none, some}
 use Rattle.std.proofs.Math.Dec.{ltb}
-use Rattle.model.specs.Lists.{if◌then◌else◌, ◌⇒◌}
+use Rattle.model.specs.Lists.{if◌then◌otherwise◌, ◌⇒◌}
 use Rattle.model.specs.Words.{count_of}
 use Rattle.model.specs.Codes.{genesis_type}
 use Rattle.model.specs.Refusal.{too_large, short_table, empty_board, truncated, unknown_type, wrong_count, wrong_address, wrong_previous, wrong_parent}
@@ -31,7 +31,7 @@ traits_known t = ltb t 2
 unfoldable pub traits_of : List ℕ → ℕ
 traits_of ws =
     let t = get_or ws traits_place 0 in
-    if eqb (get_or ws 0 0) traits_head && traits_known t then t else 0
+    if eqb (get_or ws 0 0) traits_head && traits_known t then t otherwise 0
 
 abbrev pub format_of : Hashes → List ℕ → Format
 format_of s ws = format_on s secp256r1 (set_words (traits_of ws))
@@ -77,12 +77,12 @@ checks f eligible h v r i =
 
 module _ (f : Format) (eligible : Eligibility) (ws vs : List ℕ) where
   unfoldable pub fault_in : Option Row → History → ℕ → ℕ
-  unfolding if◌then◌else◌
+  unfolding if◌then◌otherwise◌
   fault_in none h p = unknown_type
   fault_in (some r) h p =
       if not (fits r.counts (count_of (get_or ws p 0))) then wrong_count
-      else if ltb (length ws) (behind f ws p) then truncated
-      else first_unmet (checks f eligible h (verdict_of vs h) r (item_at f ws p))
+      otherwise if ltb (length ws) (behind f ws p) then truncated
+      otherwise first_unmet (checks f eligible h (verdict_of vs h) r (item_at f ws p))
 
   abbrev pub fault : History → ℕ → ℕ
   fault h p = fault_in (row_of f (get_or ws p 0)) h p
@@ -93,13 +93,13 @@ module _ (f : Format) (eligible : Eligibility) (ws vs : List ℕ) where
   items (suc k) h p = word_at ws (closing_ok ws vs) h p (judged (fault h p) h (items k (grown f ws h p) (behind f ws p)))
 
 unfoldable pub audit : Format → (board verdicts roll : List ℕ) → (index ballots : ℕ) → Outcome
-unfolding if◌then◌else◌
+unfolding if◌then◌otherwise◌
 audit f ws vs roll index ballots =
     if is_too_large ws then unread too_large
-    else if is_short index ballots then unread short_table
-    else if is_bad_roll roll then refused bad_roll 0
-    else if is_empty ws then refused empty_board 0
-    else items f (on_roll roll) ws vs item_limit [] 0
+    otherwise if is_short index ballots then unread short_table
+    otherwise if is_bad_roll roll then refused bad_roll 0
+    otherwise if is_empty ws then refused empty_board 0
+    otherwise items f (on_roll roll) ws vs item_limit [] 0
 
 -- ---- what differs
 

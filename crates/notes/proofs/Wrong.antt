@@ -8,7 +8,7 @@ use mathlib.Core.Logic.{◌≢◌}
 use mathlib.Core.Option.{Option, none, some}
 use mathlib.Core.List.{List}
 use borrow.Author.Tests.{eq-eqb, ne_eqb, lt-ltb, le-ltb}
-use Rattle.model.specs.Lists.{if◌then◌else◌}
+use Rattle.model.specs.Lists.{if◌then◌otherwise◌}
 use Rattle.model.specs.Format.{Format}
 use Rattle.model.specs.Item.{time}
 use Rattle.model.specs.History.{History, item_no}
@@ -19,21 +19,21 @@ module _ (f : Format) (ns : List ℕ) (h : History) (k : ℕ) where
 
   module _ {item : ℕ} (e : item ≡ noted_item (note_at f ns k) h) where
     pub no_item : item ≡ 0 → some no_main_item ≡ disagreement f ns h k
-    unfolding disagreement if◌then◌else◌
+    unfolding disagreement if◌then◌otherwise◌
     no_item z = rw (← e, eq-eqb item 0 z)
 
     module _ (n : item ≢ 0) {last : ℕ} (b : last ≡ item_before f ns h k) where
       pub in-disorder : item < last → some out_of_order ≡ disagreement f ns h k
-      unfolding disagreement if◌then◌else◌
+      unfolding disagreement if◌then◌otherwise◌
       in-disorder l = rw (← e, ne_eqb item 0 n, ← b, lt-ltb item last l)
 
       module _ (o : last ≤ item) {told own : ℕ} (t : told ≡ (note_at f ns k).time) (i : own ≡ time (item_no h item)) where
         pub too-early : told < own → some too_early ≡ disagreement f ns h k
-        unfolding disagreement if◌then◌else◌
+        unfolding disagreement if◌then◌otherwise◌
         too-early l = rw (← e, ne_eqb item 0 n, ← b, le-ltb item last o, ← t, ← i, lt-ltb told own l)
 
         pub agrees : own ≤ told → none ≡ disagreement f ns h k
-        unfolding disagreement if◌then◌else◌
+        unfolding disagreement if◌then◌otherwise◌
         agrees l = rw (← e, ne_eqb item 0 n, ← b, le-ltb item last o, ← t, ← i, le-ltb told own l)
 
   -- ---- all notes: from note k on, of n

@@ -5,7 +5,7 @@ use native.Mathlib.Omega.{arith}
 use mathlib.Core.Path.{◌≡◌, refl, sym, ap, ◌∙◌}
 use mathlib.Core.List.{List, [], ◌∷◌}
 use lib.ListN.{length, get_or, drop}
-use Rattle.model.specs.Lists.{if◌then◌else◌, count, keep}
+use Rattle.model.specs.Lists.{if◌then◌otherwise◌, count, keep}
 use Rattle.model.specs.Item.{item_at}
 use Rattle.model.specs.History.{History, Entry, absent, entry, item_no, main, main_items, main_item}
 use Rattle.model.proofs.Tests.{by-test}
@@ -27,7 +27,7 @@ pub record Found (h : History) (k m : ℕ) (es : History) (x : ℕ) : Type 0 whe
 
 module _ (h : History) where
   found_from : (k m : ℕ) (es : History) → drop k h ≡ es → suc m ≤ count main es → Found h k m es (main_from (suc k) (suc m) es)
-  unfolding main_from count keep entry if◌then◌else◌
+  unfolding main_from count keep entry if◌then◌otherwise◌
   found_from k m [] q l = absurd (not-suc-le-zero l)
   found_from k zero (e ∷ es) q l =
       let t = turns h k e es q in

@@ -6,7 +6,7 @@ use mathlib.Core.Path.{◌≡◌, refl, sym, ◌∙◌}
 use mathlib.Core.Bool.{Bool, true, false}
 use mathlib.Core.List.{List}
 use lib.ListN.{length}
-use Rattle.model.specs.Lists.{if◌then◌else◌, count, part}
+use Rattle.model.specs.Lists.{if◌then◌otherwise◌, count, part}
 use Rattle.model.specs.Words.{same_words}
 use Rattle.model.specs.Item as model
 use Rattle.model.specs.Item.{item_at, hashed}
@@ -47,14 +47,14 @@ module _ (ks ls : List model.Item) where
   module _ {r : Bool} where
     pub backwards-differ : (x y : ℕ) → 1 ≤ x → 1 ≤ y → r ≡ same_words (hashed (main_item ks x)) (hashed (main_item ls y)) → r ≡ false
         → collision x y ≡ backwards ks ls x y
-    unfolding backwards if◌then◌else◌
+    unfolding backwards if◌then◌otherwise◌
     backwards-differ zero y s o t q = absurd (not-suc-le-zero s)
     backwards-differ (suc x) zero s o t q = absurd (not-suc-le-zero o)
     backwards-differ (suc x) (suc y) s o t q = rw (← t, q)
 
     pub backwards-goes : (x y : ℕ) → 1 ≤ x → 1 ≤ y → r ≡ same_words (hashed (main_item ks x)) (hashed (main_item ls y)) → r ≡ true
         → backwards ks ls x y ≡ backwards ks ls (x - 1) (y - 1)
-    unfolding backwards if◌then◌else◌
+    unfolding backwards if◌then◌otherwise◌
     backwards-goes zero y s o t q = absurd (not-suc-le-zero s)
     backwards-goes (suc x) zero s o t q = absurd (not-suc-le-zero o)
     backwards-goes (suc x) (suc y) s o t q =
@@ -69,9 +69,9 @@ module _ (g h : History) (a b : ℕ) (all : a ≡ count main g) {r : Bool}
   length-mains = count-keep main (λ e. e.item) g ∙ sym all
 
   pub compare-apart : r ≡ false → apart ≡ compare (main_items g) (main_items h) b
-  unfolding compare if◌then◌else◌
+  unfolding compare if◌then◌otherwise◌
   compare-apart q = rw (length-mains, ← told, q)
 
   pub compare-goes : {c : Comparison} → r ≡ true → c ≡ backwards (main_items g) (main_items h) a b → c ≡ compare (main_items g) (main_items h) b
-  unfolding compare if◌then◌else◌
+  unfolding compare if◌then◌otherwise◌
   compare-goes q e = e ∙ rw (length-mains, ← told, q)

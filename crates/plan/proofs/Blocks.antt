@@ -5,7 +5,7 @@ use mathlib.Core.Path.{◌≡◌, sym}
 use mathlib.Core.Logic.{◌≢◌}
 use borrow.Author.Tests.{eq-eqb, ne_eqb}
 use lib.Dec.{eqb}
-use Rattle.model.specs.Lists.{if◌then◌else◌}
+use Rattle.model.specs.Lists.{if◌then◌otherwise◌}
 use Rattle.model.proofs.Tests.{by-test}
 use Rattle.sha256_block.proofs.Padding as sha256
 use Rattle.sha512_block.proofs.Padding as sha512
@@ -24,20 +24,20 @@ blocks-512 n = rw (sha512.length-padding n, sha512.zero_bits-words n) (omega ari
 
 -- by the number of the curve
 pub on-384 : (curve n : ℕ) → curve ≡ 1 → (n + 36) / 32 ≡ blocks_for (hash_on curve) n
-unfolding hash_on if◌then◌else◌
+unfolding hash_on if◌then◌otherwise◌
 on-384 curve n q = rw (eq-eqb curve 1 q) (sym (blocks-512 n))
 
 pub on-521 : (curve n : ℕ) → curve ≡ 2 → (n + 36) / 32 ≡ blocks_for (hash_on curve) n
-unfolding hash_on if◌then◌else◌
+unfolding hash_on if◌then◌otherwise◌
 on-521 curve n q = rw q (sym (blocks-512 n))
 
 pub on-256 : (curve n : ℕ) → curve ≢ 1 → curve ≢ 2 → (n + 18) / 16 ≡ blocks_for (hash_on curve) n
-unfolding hash_on if◌then◌else◌
+unfolding hash_on if◌then◌otherwise◌
 on-256 curve n a b = rw (ne_eqb curve 1 a, ne_eqb curve 2 b) (sym (blocks-256 n))
 
 -- at most one more than the words
 pub blocks-few : (curve n : ℕ) → blocks_for (hash_on curve) n ≤ n + 1
-unfolding hash_on if◌then◌else◌
+unfolding hash_on if◌then◌otherwise◌
 blocks-few curve n =
     let few = blocks-256 n in
     let wide = blocks-512 n in

@@ -8,7 +8,7 @@ use mathlib.Core.List.{List}
 use lib.Dec.{ltb}
 use lib.ListN.{length, get_or}
 use borrow.Author.Tests.{lt-ltb, le-ltb}
-use Rattle.model.specs.Lists.{if◌then◌else◌}
+use Rattle.model.specs.Lists.{if◌then◌otherwise◌}
 use Rattle.model.specs.Refusal.{no_fault, wrong_count, truncated}
 use Rattle.model.specs.Words.{count_of}
 use Rattle.model.specs.Item.{item_length, hashed_length, behind}
@@ -40,15 +40,15 @@ module _ (board : List ℕ) (p : ℕ) where
 
   -- 5 and 6 come first
   by_word : (row : Option types.Row) → count_fault row (count_of word) ≢ no_fault → fault_by row ≡ count_fault row (count_of word)
-  unfolding audit.head_fault count_fault if◌then◌else◌
+  unfolding audit.head_fault count_fault if◌then◌otherwise◌
   by_word none n = refl
   by_word (some r) n =
       by-test (types.fits r.counts (count_of word)) (λ q. absurd (n (rw q))) (λ q. rw q)
 
   -- then 4
   by_end : (row : Option types.Row) → count_fault row (count_of word) ≡ no_fault
-      → fault_by row ≡ (if ltb (length board) (behind (format_of board) board p) then truncated else no_fault)
-  unfolding audit.head_fault count_fault if◌then◌else◌
+      → fault_by row ≡ (if ltb (length board) (behind (format_of board) board p) then truncated otherwise no_fault)
+  unfolding audit.head_fault count_fault if◌then◌otherwise◌
   by_end none q = absurd (omega arith)
   by_end (some r) q =
       by-test (types.fits r.counts (count_of word)) (λ t. rw t) (λ t. let e : wrong_count ≡ no_fault = rw t at q in absurd (omega arith))
@@ -65,11 +65,11 @@ module _ (board : List ℕ) (p : ℕ) where
       passed = sym found ∙ ap found_of q
 
       pub fault_past : length board < end → head_fault board p ≡ truncated
-      unfolding if◌then◌else◌
+      unfolding if◌then◌otherwise◌
       fault_past l = by_end (types.row_of (format_of board) word) passed ∙ rw (← ends, lt-ltb _ _ l)
 
       pub fault-none : end ≤ length board → head_fault board p ≡ no_fault
-      unfolding if◌then◌else◌
+      unfolding if◌then◌otherwise◌
       fault-none l = by_end (types.row_of (format_of board) word) passed ∙ rw (← ends, le-ltb _ _ l)
 
   -- ---- the words of its item

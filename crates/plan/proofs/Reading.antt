@@ -8,7 +8,7 @@ use mathlib.Core.List.{List, [], ◌∷◌, ◌++◌}
 use lib.ListN.{length, get_or}
 use lib.Dec.{T}
 use borrow.Author.Tests.{lt-ltb, le-ltb, not-true, not-false}
-use Rattle.model.specs.Lists.{if◌then◌else◌}
+use Rattle.model.specs.Lists.{if◌then◌otherwise◌}
 use Rattle.model.specs.Refusal.{too_large, empty_board, truncated, bad_closing}
 use Rattle.model.specs.Words.{kind_of, count_of, is_closing}
 use Rattle.model.specs.Item.{item_at, item_length, hashed_length, behind}
@@ -42,11 +42,11 @@ refused-plan x items board = refl
 
 module _ (board : List ℕ) (r : Plan) where
   pub plan-large : word_limit < length board → planned r ≡ plan_from board (refused too_large 0) → planned r ≡ plan board
-  unfolding plan_of heads_read if◌then◌else◌
+  unfolding plan_of heads_read if◌then◌otherwise◌
   plan-large l told = told ∙ rw (lt-ltb _ _ l)
 
   pub plan-empty : length board ≤ word_limit → is_empty board ≡ true → planned r ≡ plan_from board (refused empty_board 0) → planned r ≡ plan board
-  unfolding plan_of heads_read if◌then◌else◌
+  unfolding plan_of heads_read if◌then◌otherwise◌
   plan-empty l q told = told ∙ rw (le-ltb _ _ l, q)
 
 -- ---- at the closing word
@@ -60,12 +60,12 @@ module _ (board : List ℕ) (s : Heads) where
     same-closed = e ∙ rw (length-history (format_of board) board s.items)
 
     pub close-bad : not b ≡ true → (r : Plan) → planned r ≡ plan_from board (refused bad_closing s.items) → planned r ≡ plan_from board (closing_read board s)
-    unfolding closing if◌then◌else◌
+    unfolding closing if◌then◌otherwise◌
     close-bad q r told = told ∙ rw (← same-closed, not-true b q, length-history (format_of board) board s.items)
 
     pub close-good : not b ≡ false → Read board s
         → planned (Accepted s.items (index_row * s.items) s.blocks) ≡ plan_from board (closing_read board s)
-    unfolding closing if◌then◌else◌ plan_of
+    unfolding closing if◌then◌otherwise◌ plan_of
     close-good q read = rw (← same-closed, not-false b q, length-history (format_of board) board s.items, read.blocks)
 
 -- ---- at the head of the loop
@@ -92,7 +92,7 @@ module _ (board : List ℕ) where
     pub same : plan board ≡ plan_from board (from s.items)
 
   pub going_start : length board ≤ word_limit → is_empty board ≡ false → Going (record { items = 0; place = 0; blocks = 0 })
-  unfolding heads_read if◌then◌else◌ history place_of sum_of
+  unfolding heads_read if◌then◌otherwise◌ history place_of sum_of
   going_start l q = record {
     read = record { few = zero-le; place = refl; blocks = refl; small = zero-le };
     same = rw (le-ltb _ _ l, q);

@@ -9,7 +9,7 @@ use lib.Dec.{eqb}
 use lib.ListN.{get_or, set, replicate, length-set, length-replicate, get_or-replicate}
 use lib.Seq.{get_or-set_same, get_or-set_other, set-get_or}
 use borrow.Author.Tests.{eqb-true, eqb-false, eq-eqb, ne_eqb, not-true, not-false}
-use Rattle.model.specs.Lists.{if◌then◌else◌}
+use Rattle.model.specs.Lists.{if◌then◌otherwise◌}
 use Rattle.model.specs.Refusal.{no_fault, unknown_type, wrong_count}
 use Rattle.model.specs.Words.{kind_of, code_of, count_of, main_kind}
 use Rattle.model.specs.Codes.{cast_type}
@@ -51,11 +51,11 @@ module _ (board : List ℕ) (w : ℕ) where
     same_count = e ∙ ap (λ (h : Head). types.fits (counts_of row.counts) h.count) is
 
     pub word-misfit : not b ≡ true → wrong_count ≡ word_fault board w
-    unfolding count_fault if◌then◌else◌
+    unfolding count_fault if◌then◌otherwise◌
     word-misfit n = rw (is_row, ← same_count, not-true b n)
 
     pub word_fits : not b ≡ false → no_fault ≡ word_fault board w
-    unfolding count_fault if◌then◌else◌
+    unfolding count_fault if◌then◌otherwise◌
     word_fits n = rw (is_row, ← same_count, not-false b n)
 
 -- ---- the words that are known
@@ -65,7 +65,7 @@ abbrev pub cast_head : ℕ
 cast_head = main_kind * 2 ^ 28 + cast_type * 2 ^ 16
 
 cast-passes : (board : List ℕ) → word_fault board cast_head ≡ no_fault
-unfolding count_fault if◌then◌else◌ types.row_of types.row_in types.table types.fits kind_of code_of count_of
+unfolding count_fault if◌then◌otherwise◌ types.row_of types.row_in types.table types.fits kind_of code_of count_of
 cast-passes board = refl
 
 pub known_start : (board : List ℕ) → Known board (replicate 64 cast_head)
@@ -79,11 +79,11 @@ module _ (board : List ℕ) (w : ℕ) (known : List ℕ) where
   slot = w / 2 ^ 16 % 64
 
   after-pass : word_fault board w ≡ no_fault → set known slot w ≡ known_after board w known
-  unfolding known_after if◌then◌else◌
+  unfolding known_after if◌then◌otherwise◌
   after-pass q = rw (eq-eqb (word_fault board w) no_fault q)
 
   after-fail : word_fault board w ≢ no_fault → known ≡ known_after board w known
-  unfolding known_after if◌then◌else◌
+  unfolding known_after if◌then◌otherwise◌
   after-fail n = rw (ne_eqb (word_fault board w) no_fault n)
 
   -- what a word that is found there tells
@@ -111,7 +111,7 @@ module _ (board : List ℕ) (w : ℕ) (known : List ℕ) where
         (λ e. ap (word_fault board) (get_or-set_other known slot j w 0 (eqb-false j slot e)) ∙ k.pass j l)
 
     pass-after : Known board (known_after board w known)
-    unfolding known_after if◌then◌else◌
+    unfolding known_after if◌then◌otherwise◌
     pass-after =
         by-test (eqb (word_fault board w) no_fault)
         (λ q. rw q (record { sized = length-set known slot w ∙ k.sized; pass = pass-set (eqb-true (word_fault board w) no_fault q) }))

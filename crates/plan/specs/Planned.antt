@@ -1,7 +1,7 @@
 -- The code's plan as the paper's numbers and values, and what is seen of a head. Paper: request (x). Assumes nothing.
 use Rattle.std.specs.Prelude.{ℕ, ◌/◌, ◌%◌, ◌^◌, ◌≤◌, ◌<◌, ◌≡◌, List, [], length, get_or, set, eqb}
 use Rattle.std.proofs.Math.Option.{Option, none, some}
-use Rattle.model.specs.Lists.{if◌then◌else◌}
+use Rattle.model.specs.Lists.{if◌then◌otherwise◌}
 use Rattle.model.specs.Refusal.{no_fault, unknown_type, wrong_count}
 use Rattle.model.specs.Types as types
 use Rattle.model.specs.Words.{count_of}
@@ -41,7 +41,7 @@ IsLook board p (Fails refusal) = head_fault board p ≡ number_of refusal
 -- 5 or 6, of a head word; 0 for none
 unfoldable pub count_fault : Option types.Row → ℕ → ℕ
 count_fault none n = unknown_type
-count_fault (some r) n = if types.fits r.counts n then no_fault else wrong_count
+count_fault (some r) n = if types.fits r.counts n then no_fault otherwise wrong_count
 
 abbrev pub word_fault : List ℕ → ℕ → ℕ
 word_fault board w = count_fault (types.row_of (format_of board) w) (count_of w)
@@ -53,7 +53,7 @@ pub record Known (board known : List ℕ) : Type 0 where
 
 -- these words after a look at the word w, which is kept where it passes
 unfoldable pub known_after : List ℕ → ℕ → List ℕ → List ℕ
-known_after board w known = if eqb (word_fault board w) no_fault then set known (w / 2 ^ 16 % 64) w else known
+known_after board w known = if eqb (word_fault board w) no_fault then set known (w / 2 ^ 16 % 64) w otherwise known
 
 -- ---- behind the heads that are read
 

@@ -13,7 +13,7 @@ use Rattle.sha512_block.specs.Fips as sha512
 use Rattle.sha512_block.proofs.Halves.{length_from}
 use Rattle.sha256_blocks.specs.Blocks.{sha256_function}
 use Rattle.sha512_blocks.specs.Blocks.{sha512_function}
-use Rattle.model.specs.Lists.{if◌then◌else◌}
+use Rattle.model.specs.Lists.{if◌then◌otherwise◌}
 use Rattle.model.specs.Words.{count_of}
 use Rattle.model.specs.Format.{Format}
 use Rattle.model.specs.Traits.{traits_head, traits_place, traits_known, traits_of, curve_number, curve_of}
@@ -84,15 +84,15 @@ module _ (ws : List ℕ) (h : History) (read : heads_read (format_of ws) ws ≡ 
       ∙ sum_same _ _ h (every_map (λ e. Shaped f e.item) _ of h (shaped-read f ws h read))
 
   pub blocks-256 : curve_number_of ws ≡ 0 → (plan ws).blocks ≡ sum_of (λ e. length (sha256.padded (hashed e.item)) / 16) h
-  unfolding hash_on if◌then◌else◌
+  unfolding hash_on if◌then◌otherwise◌
   blocks-256 q = sum-blocks sha256_function (λ m. length (sha256.padded m) / 16) (ap hash_on q) (blocks-padded sha256_function)
 
   pub blocks-384 : curve_number_of ws ≡ 1 → (plan ws).blocks ≡ sum_of (λ e. length (sha512.from_halves (sha512.padded (hashed e.item))) / 16) h
-  unfolding hash_on if◌then◌else◌
+  unfolding hash_on if◌then◌otherwise◌
   blocks-384 q = sum-blocks sha512_function (λ m. length (sha512.from_halves (sha512.padded m)) / 16) (ap hash_on q) blocks-halves
 
   pub blocks-512 : curve_number_of ws ≡ 2 → (plan ws).blocks ≡ sum_of (λ e. length (sha512.from_halves (sha512.padded (hashed e.item))) / 16) h
-  unfolding hash_on if◌then◌else◌
+  unfolding hash_on if◌then◌otherwise◌
   blocks-512 q = sum-blocks sha512_function (λ m. length (sha512.from_halves (sha512.padded m)) / 16) (ap hash_on q) blocks-halves
 
 -- ---- of an accepted board
@@ -120,19 +120,19 @@ module _ (ws vs roll : List ℕ) (index ballots : ℕ) (h : History) (a : audit 
   pub plan-256 : curve_number_of ws ≡ 0 → let message : Entry → List ℕ = λ e. sha256.padded (hashed e.item) in
       ((plan ws).blocks ≡ sum_of (λ e. length (message e) / 16) h)
       × Every (λ e. e.item.address ≡ sha256.hash_value (message e) (length (message e) / 16)) h
-  unfolding curve_of if◌then◌else◌ sha256.sha256_words
+  unfolding curve_of if◌then◌otherwise◌ sha256.sha256_words
   plan-256 q = (blocks-256 ws h read q, addresses sha256.sha256_words (ap (λ (n : ℕ). (curve_of n).hash hashes) q))
 
   pub plan-384 : curve_number_of ws ≡ 1 → let message : Entry → List ℕ = λ e. sha512.from_halves (sha512.padded (hashed e.item)) in
       ((plan ws).blocks ≡ sum_of (λ e. length (message e) / 16) h)
       × Every (λ e. e.item.address ≡ sha512.to_halves (take 6 (sha512.hash_value sha512.H0-384 (message e) (length (message e) / 16)))) h
-  unfolding curve_of if◌then◌else◌ sha512.sha384_words sha512.hash_words
+  unfolding curve_of if◌then◌otherwise◌ sha512.sha384_words sha512.hash_words
   plan-384 q = (blocks-384 ws h read q, addresses sha512.sha384_words (ap (λ (n : ℕ). (curve_of n).hash hashes) q))
 
   pub plan-512 : curve_number_of ws ≡ 2 → let message : Entry → List ℕ = λ e. sha512.from_halves (sha512.padded (hashed e.item)) in
       ((plan ws).blocks ≡ sum_of (λ e. length (message e) / 16) h)
       × Every (λ e. e.item.address ≡ sha512.to_halves (sha512.hash_value sha512.H0-512 (message e) (length (message e) / 16))) h
-  unfolding curve_of if◌then◌else◌ sha512.sha512_words sha512.hash_words
+  unfolding curve_of if◌then◌otherwise◌ sha512.sha512_words sha512.hash_words
   plan-512 q = (blocks-512 ws h read q, addresses sha512.sha512_words (ap (λ (n : ℕ). (curve_of n).hash hashes) q))
 
 -- traits that are in force name one of the three curves

@@ -11,7 +11,7 @@ use mathlib.Core.Option.{Option, none, some}
 use mathlib.Core.List.{List, [], ◌∷◌, ◌++◌}
 use lib.ListN.{length, get_or}
 use lib.Dec.{T, leb, ltb, nleb→lt, lt→ltb, ltb→lt}
-use Rattle.model.specs.Lists.{if◌then◌else◌, any}
+use Rattle.model.specs.Lists.{if◌then◌otherwise◌, any}
 use Rattle.model.specs.Words.{is_closing, count_of}
 use Rattle.model.specs.Refusal.{no_fault, too_large, empty_board, truncated, bad_closing}
 use Rattle.model.specs.Format.{Format}
@@ -39,7 +39,7 @@ module _ (f : Format) (ws : List ℕ) (k : ℕ) where
   fault_here row = head_fault f ws row (place_of f ws k) (λ r. no_fault)
 
   by_row : (row : Option Row) → row_of f (get_or ws (place_of f ws k) 0) ≡ row
-      → first_number (head_reasons f ws k) ≡ (if leb item_limit k then too_large else fault_here row)
+      → first_number (head_reasons f ws k) ≡ (if leb item_limit k then too_large otherwise fault_here row)
   unfolding listed_with first_number head_fault
   by_row none q = rw q
   by_row (some r) q = rw q

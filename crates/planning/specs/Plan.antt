@@ -5,7 +5,7 @@ use mathlib.Core.List.{List, [], ◌∷◌}
 use Rattle.sha2_common.specs.Blocks.{HashFunction}
 use Rattle.sha256_blocks.specs.Blocks.{sha256_function}
 use Rattle.sha512_blocks.specs.Blocks.{sha512_function}
-use Rattle.model.specs.Lists.{if◌then◌else◌, has}
+use Rattle.model.specs.Lists.{if◌then◌otherwise◌, has}
 use Rattle.model.specs.Words.{count_of}
 use Rattle.model.specs.Refusal.{no_fault, too_large, short_table, empty_board, truncated, wrong_address, wrong_previous, wrong_parent, earlier_time, out_of_phase, duplicate, bad_content, no_verdict, wrong_key, bad_signature, bad_closing, bad_roll, not_on_roll}
 use Rattle.model.specs.Format.{Format, verdict_size}
@@ -31,17 +31,17 @@ module _ (f : Format) (ws : List ℕ) where
   -- "It applies the oversize, blank, stranger, misfit, torn and closing-word rules only": 1, 3, 5, 6, 4 and 18, in the audit's order. The history that
   -- is accepted is that of items of which nothing else was asked
   unfoldable pub heads_read : Outcome
-  unfolding if◌then◌else◌
+  unfolding if◌then◌otherwise◌
   heads_read =
       if is_too_large ws then unread too_large
-      else if is_empty ws then refused empty_board 0
-      else reading f ws closed_only head_only item_limit [] 0
+      otherwise if is_empty ws then refused empty_board 0
+      otherwise reading f ws closed_only head_only item_limit [] 0
 
 -- ---- the blocks of a message
 
 -- the hash of a board's addresses, by the number of its curve: "0 SHA-256, 1 SHA-384, 2 SHA-512". The last two have the same blocks and padding
 unfoldable pub hash_on : ℕ → HashFunction
-hash_on curve = if eqb curve 1 then sha512_function else if eqb curve 2 then sha512_function else sha256_function
+hash_on curve = if eqb curve 1 then sha512_function otherwise if eqb curve 2 then sha512_function otherwise sha256_function
 
 -- "the blocks that the standard's padding gives", for a message of n words: what is padded depends on n alone
 unfoldable pub blocks_for : HashFunction → ℕ → ℕ

@@ -12,7 +12,7 @@ use lib.ListN.{length, get_or, set, replicate, length-replicate, get_or-replicat
 use lib.Seq.{ext_get_or, take_all}
 use lib.Dec.{T, eqb}
 use borrow.Author.Tests.{eq-eqb, ne_eqb}
-use Rattle.model.specs.Lists.{if◌then◌else◌, count, tabulate}
+use Rattle.model.specs.Lists.{if◌then◌otherwise◌, count, tabulate}
 use Rattle.model.specs.Codes.{cast_type}
 use Rattle.model.specs.History.{History, Entry, entry, main, typed, main_number, first_from, place_of, history, entry_of}
 use Rattle.model.specs.Audit.{accepted, item_limit}
@@ -163,7 +163,7 @@ module _ {board index : List ℕ} {items done : ℕ} (kept : Kept board index it
     module _ {c : Known} (is : IsKnown board (entry (before board items) (done + 1)) c) where
       -- an item that is no cast changes none of them
       pub other-next : c.item.head.code ≢ cast_type → ws ≡ answers_up_to board receipts (done + 1) size
-      unfolding history if◌then◌else◌
+      unfolding history if◌then◌otherwise◌
       other-next n =
           let other : typed cast_type new ≡ false = ne_eqb _ cast_type (λ q. n (known-code (is-new is) ∙ q)) in
           rw add-one
@@ -190,7 +190,7 @@ module _ {board index : List ℕ} {items done : ℕ} (kept : Kept board index it
           let old = far_at k l in
           get_or-tabulate with_it (length ws) k 0 (omega arith)
           ∙ new-inside board receipts (entry_from board c) number ws k l
-          ∙ (λ i. if eqb (old i) no_number && cast_of r (same i) then number_is i else old i)
+          ∙ (λ i. if eqb (old i) no_number && cast_of r (same i) then number_is i otherwise old i)
           ∙ sym (answer-next r h new only new-main few))
           (λ k l u.
           get_or-tabulate with_it (length ws) k 0 (omega arith)

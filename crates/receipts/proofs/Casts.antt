@@ -11,7 +11,7 @@ use mathlib.Core.List.{List}
 use lib.ListN.{length, get_or, set}
 use lib.Dec.{eqb, ltb}
 use borrow.Author.Tests.{eq-eqb, ne_eqb, eqb-false, lt-ltb, le-ltb}
-use Rattle.model.specs.Lists.{if◌then◌else◌}
+use Rattle.model.specs.Lists.{if◌then◌otherwise◌}
 use Rattle.model.specs.Words.{same_words}
 use Rattle.model.specs.Codes.{cast_type}
 use Rattle.model.specs.History.{Entry, typed}
@@ -42,27 +42,27 @@ total board receipts = receipt_count (format_of board) receipts
 
 module _ (board receipts : List ℕ) (e : Entry) (number : ℕ) (old : List ℕ) where
   abbrev pub new_answer : ℕ → ℕ
-  new_answer k = if ltb k (total board receipts) && eqb (get_or old k 0) no_number && is_cast board receipts e k then number else get_or old k 0
+  new_answer k = if ltb k (total board receipts) && eqb (get_or old k 0) no_number && is_cast board receipts e k then number otherwise get_or old k 0
 
   module _ (k : ℕ) where
     pub new-past : total board receipts ≤ k → new_answer k ≡ get_or old k 0
-    unfolding if◌then◌else◌
+    unfolding if◌then◌otherwise◌
     new-past l = rw (le-ltb k (total board receipts) l)
 
     pub new-inside : k < total board receipts
-        → new_answer k ≡ (if eqb (get_or old k 0) no_number && is_cast board receipts e k then number else get_or old k 0)
+        → new_answer k ≡ (if eqb (get_or old k 0) no_number && is_cast board receipts e k then number otherwise get_or old k 0)
     new-inside l = rw (lt-ltb k (total board receipts) l)
 
     new-answered : get_or old k 0 ≢ no_number → new_answer k ≡ get_or old k 0
-    unfolding if◌then◌else◌
+    unfolding if◌then◌otherwise◌
     new-answered n = rw (ne_eqb (get_or old k 0) no_number n, and-false)
 
     new-other : is_cast board receipts e k ≡ false → new_answer k ≡ get_or old k 0
-    unfolding if◌then◌else◌
+    unfolding if◌then◌otherwise◌
     new-other q = rw (q, and-false)
 
     new-own : k < total board receipts → get_or old k 0 ≡ no_number → is_cast board receipts e k ≡ true → new_answer k ≡ number
-    unfolding if◌then◌else◌
+    unfolding if◌then◌otherwise◌
     new-own l n q = rw (lt-ltb k (total board receipts) l, eq-eqb (get_or old k 0) no_number n, q)
 
 -- ---- the items of a chain that a walk passes over are of other buckets

@@ -1,6 +1,6 @@
 -- Receipts that can be answered, the bucket of each by its address, and the answers so far. Paper: request (ii). Assumes nothing.
 use Rattle.std.specs.Prelude.{ℕ, zero, suc, ◌*◌, ◌≤◌, ◌≡◌, ◌&&◌, List, length, get_or, eqb, ltb}
-use Rattle.model.specs.Lists.{if◌then◌else◌, tabulate}
+use Rattle.model.specs.Lists.{if◌then◌otherwise◌, tabulate}
 use Rattle.model.specs.History.{Entry}
 use Rattle.model.specs.Report.{no_number, filled}
 use Rattle.model.specs.Receipts.{receipt_limit, receipt_size, receipt_count, receipt_at, cast_of, receipt_answers}
@@ -43,5 +43,5 @@ with_cast board receipts e number answers =
     (λ k.
     let is_new =
     ltb k (receipt_count (format_of board) receipts) && eqb (get_or answers k 0) no_number && cast_of (receipt_at (format_of board) receipts k) e in
-    if is_new then number else get_or answers k 0)
+    if is_new then number otherwise get_or answers k 0)
     (length answers)

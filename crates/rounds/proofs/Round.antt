@@ -9,7 +9,7 @@ use lib.Bits.{bit_or, or_zero_r}
 use lib.ListN.{length, get_or}
 use lib.Dec.{leb, ltb}
 use borrow.Author.Tests.{ne_eqb, le-leb, lt-leb}
-use Rattle.model.specs.Lists.{if◌then◌else◌, part}
+use Rattle.model.specs.Lists.{if◌then◌otherwise◌, part}
 use Rattle.model.specs.Words.{pair}
 use Rattle.model.specs.Codes.{round_type}
 use Rattle.model.specs.Item as model
@@ -126,13 +126,13 @@ module _ {board index : List ℕ} {n k : ℕ} (kept : Kept board index n) (f : I
     -- a set with its contests, where it is, and as it was, where it is not
     pub contests-open : (t : ℕ) (b : Bool) → b ≡ is_open t (item_at (format_of board) board e.item.place) → b ≡ true → (i : ℕ)
         → get_or (part (e.item.content + 1) (e.item.head.count - 5) board) i 0 ≡ word_under t (before board n) i k
-    unfolding word_under if◌then◌else◌
+    unfolding word_under if◌then◌otherwise◌
     contests-open t b q o i =
         rw (← open-under t b q, o) (ap (λ (s : List ℕ). get_or s i 0) (round-contests round_under ∙ ap round_contests item-under))
 
     pub contests-shut : (t : ℕ) (b : Bool) → b ≡ is_open t (item_at (format_of board) board e.item.place) → b ≡ false → (w i : ℕ)
         → w ≡ bit_or w (word_under t (before board n) i k)
-    unfolding word_under if◌then◌else◌
+    unfolding word_under if◌then◌otherwise◌
     contests-shut t b q o w i = rw (← open-under t b q, o, or_zero_r)
 
 -- none under 0
@@ -142,5 +142,5 @@ module _ (t : ℕ) (h : History) (k : ℕ) (none : k ≡ 0) where
   open_none = rw none
 
   pub contests-none : (w i : ℕ) → w ≡ bit_or w (word_under t h i k)
-  unfolding word_under if◌then◌else◌
+  unfolding word_under if◌then◌otherwise◌
   contests-none w i = rw (← open_none, or_zero_r)

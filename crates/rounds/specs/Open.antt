@@ -1,7 +1,7 @@
 -- A round in force, by its item number: whether it is open at a time, and the contests that it then enables. 0 says that there is none.
 -- Paper: "Phases". Assumes nothing.
 use Rattle.std.specs.Prelude.{◌≡◌, Bool, not, ◌&&◌, List, ℕ, ◌+◌, ◌≤◌, length, get_or, eqb}
-use Rattle.model.specs.Lists.{if◌then◌else◌}
+use Rattle.model.specs.Lists.{if◌then◌otherwise◌}
 use Rattle.model.specs.Codes.{round_type}
 use Rattle.model.specs.Item.{code}
 use Rattle.model.specs.History.{History, item_no}
@@ -27,4 +27,4 @@ open_under t h k = not (eqb k 0) && is_open t (item_no h k)
 
 -- word i of its contests, where it is
 unfoldable pub word_under : ℕ → History → ℕ → ℕ → ℕ
-word_under t h i k = if open_under t h k then get_or (round_contests (item_no h k)) i 0 else 0
+word_under t h i k = if open_under t h k then get_or (round_contests (item_no h k)) i 0 otherwise 0

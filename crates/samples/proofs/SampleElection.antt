@@ -7,7 +7,7 @@ use mathlib.Core.List.{List, [], ◌∷◌, ◌++◌}
 use lib.ListN.{length, replicate, get_or}
 use lib.Dec.{lit≤}
 use lib.Count.{ones_in}
-use Rattle.model.specs.Lists.{if◌then◌else◌, ◌⇒◌, part, any, count, keep, latest}
+use Rattle.model.specs.Lists.{if◌then◌otherwise◌, ◌⇒◌, part, any, count, keep, latest}
 use Rattle.model.specs.Words.{kind_of, code_of, count_of, same_words, pair, closing_word, low_zero, bit, in_words, size, every_below, all_in}
 use Rattle.model.specs.Format.{Format, Hashes, Curve, secp256r1, format_on, key_size}
 use Rattle.model.specs.Traits.{traits_known, format_of}
@@ -139,7 +139,7 @@ items-in (refused n k) = 0
 items-in (accepted h) = length h
 
 all-accepted : items-in (audit toy board verdicts roll index_need ballot_need) ≡ 21
-unfolding election words_in verdicts_in words_of hashed if◌then◌else◌ ◌⇒◌ part any count keep latest ones_in kind_of code_of count_of same_words pair low_zero bit in_words size every_below all_in item_length item_at row_of row_in table fits entry first_from last_from main_item end_after end_address parent_number session_number entry_of place_of history vote_of counted contents address_ok previous_ok parent_ok time_ok rounds is_open extraction_ok open_ok standing_ok latest_ok intent_ok spoiled_ok phase_ok on_board_ok under_parent_ok under_ballot_ok only_ok contests_ok may_vote cryptograms_ok genesis_ok traits_known contest_ok threshold_ok authorizer_ok round_ok session_ok commitment_ok ballot_ok fingerprint_ok trustees_ok content_ok electors rising is_bad_roll on_roll on_roll_ok opening key_of verdict_ok key_ok signature_ok first_unmet checks fault_in head_fault closing judged word_at reading audit items-in
+unfolding election words_in verdicts_in words_of hashed if◌then◌otherwise◌ ◌⇒◌ part any count keep latest ones_in kind_of code_of count_of same_words pair low_zero bit in_words size every_below all_in item_length item_at row_of row_in table fits entry first_from last_from main_item end_after end_address parent_number session_number entry_of place_of history vote_of counted contents address_ok previous_ok parent_ok time_ok rounds is_open extraction_ok open_ok standing_ok latest_ok intent_ok spoiled_ok phase_ok on_board_ok under_parent_ok under_ballot_ok only_ok contests_ok may_vote cryptograms_ok genesis_ok traits_known contest_ok threshold_ok authorizer_ok round_ok session_ok commitment_ok ballot_ok fingerprint_ok trustees_ok content_ok electors rising is_bad_roll on_roll on_roll_ok opening key_of verdict_ok key_ok signature_ok first_unmet checks fault_in head_fault closing judged word_at reading audit items-in
 all-accepted = refl
 
 -- so it is accepted, with its first items
@@ -163,11 +163,11 @@ past = history toy board 21
 
 -- 17 of the items are main
 mains : count main past ≡ 17
-unfolding election words_in words_of hashed if◌then◌else◌ part count kind_of count_of item_length item_at entry_of place_of history
+unfolding election words_in words_of hashed if◌then◌otherwise◌ part count kind_of count_of item_length item_at entry_of place_of history
 mains = refl
 
 end : end_address toy past ≡ replicate 8 21
-unfolding election words_in words_of hashed if◌then◌else◌ part keep kind_of count_of item_length item_at main_item end_after end_address entry_of place_of history
+unfolding election words_in words_of hashed if◌then◌otherwise◌ part keep kind_of count_of item_length item_at main_item end_after end_address entry_of place_of history
 end = refl
 
 -- one ballot of weight 5: main item 13, of voter 9
@@ -175,7 +175,7 @@ abbrev vote : Vote
 vote = record { ballot = 13; voter = 9; weight = 5; content = 1 ∷ replicate 16 6 ++ (0x80000 ∷ []) }
 
 pub votes : counted past ≡ vote ∷ []
-unfolding election words_in words_of hashed if◌then◌else◌ part any count keep latest kind_of code_of count_of same_words item_length item_at entry first_from parent_number session_number entry_of place_of history vote_of counted
+unfolding election words_in words_of hashed if◌then◌otherwise◌ part any count keep latest kind_of code_of count_of same_words item_length item_at entry first_from parent_number session_number entry_of place_of history vote_of counted
 votes = refl
 
 -- what is reported and printed of a history with so many items and main items, this end address and these counted ballots
@@ -224,16 +224,16 @@ pub index-table : index_rows (history toy board 21) 0 (history toy board 21)
     ∷ 961 ∷ 19 ∷ 4294967295 ∷ 15 ∷ 4294967295
     ∷ 1012 ∷ 20 ∷ 4294967295 ∷ 16 ∷ 4294967295
     ∷ []
-unfolding election words_in words_of hashed if◌then◌else◌ part count code_of count_of kind_of same_words item_length item_at entry first_from parent_number session_number entry_of closer place_of history number_word index_row_of index_rows
+unfolding election words_in words_of hashed if◌then◌otherwise◌ part count code_of count_of kind_of same_words item_length item_at entry first_from parent_number session_number entry_of closer place_of history number_word index_row_of index_rows
 index-table = refl
 
 -- the spoiled ballot's hidden track: items 10, 11, 13 and 14 lead up to it, and the ballot to its session and genesis
 pub track : ancestry (history toy board 21) 14 ≡ 14 ∷ 13 ∷ 11 ∷ 10 ∷ 9 ∷ 8 ∷ 7 ∷ 6 ∷ 5 ∷ 4 ∷ 3 ∷ 2 ∷ 1 ∷ []
-unfolding election words_in words_of hashed if◌then◌else◌ part code_of count_of kind_of same_words item_length item_at entry first_from parent_number session_number entry_of place_of history ancestry up_to
+unfolding election words_in words_of hashed if◌then◌otherwise◌ part code_of count_of kind_of same_words item_length item_at entry first_from parent_number session_number entry_of place_of history ancestry up_to
 track = refl
 
 -- `accepted 21 17 1 5` and `13 9 5`
 pub text : text_of (accepted (history toy board 21))
     ≡ 97 ∷ 99 ∷ 99 ∷ 101 ∷ 112 ∷ 116 ∷ 101 ∷ 100 ∷ 32 ∷ 50 ∷ 49 ∷ 32 ∷ 49 ∷ 55 ∷ 32 ∷ 49 ∷ 32 ∷ 53 ∷ 10 ∷ 49 ∷ 51 ∷ 32 ∷ 57 ∷ 32 ∷ 53 ∷ 10 ∷ []
-unfolding total_weight ballot_rows accepted_line row_lines spaced digits if◌then◌else◌
+unfolding total_weight ballot_rows accepted_line row_lines spaced digits if◌then◌otherwise◌
 text = text-by past (length-history toy board 21) mains votes

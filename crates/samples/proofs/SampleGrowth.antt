@@ -8,7 +8,7 @@ use mathlib.Core.List.{List, [], ◌∷◌, ◌++◌, append_assoc, append-nil}
 use lib.ListN.{length, replicate, take, length-append}
 use lib.Dec.{T, lit≤}
 use lib.Count.{ones_in}
-use Rattle.model.specs.Lists.{if◌then◌else◌, ◌⇒◌, part, any, count, keep, latest}
+use Rattle.model.specs.Lists.{if◌then◌otherwise◌, ◌⇒◌, part, any, count, keep, latest}
 use Rattle.model.specs.Words.{kind_of, code_of, count_of, same_words, pair, low_zero, bit, in_words, size, every_below, all_in}
 use Rattle.model.specs.Format.{Format}
 use Rattle.model.specs.Traits.{traits_known, traits_of, set_words, curve_of, format_of}
@@ -239,37 +239,37 @@ all-accepted : (items-in (own_answer sixteen) ≡ 16) × (items-in (own_answer (
     × (items-in (own_answer (sixteen then session)) ≡ 17)
     × (items-in (own_answer (sixteen then spoil)) ≡ 17) × (items-in (own_answer (sixteen then cast)) ≡ 17)
     × (items-in (own_answer twenty_one) ≡ 21) × (items-in (own_answer (twenty_one then cast_again)) ≡ 22)
-unfolding sixteen twenty_one election traits_of set_words curve_of words_in verdicts_in words_of hashed if◌then◌else◌ ◌⇒◌ part any count keep latest ones_in kind_of code_of count_of same_words pair low_zero bit in_words size every_below all_in item_length item_at row_of row_in table fits entry first_from last_from main_item end_after end_address parent_number session_number entry_of place_of history vote_of counted contents address_ok previous_ok parent_ok time_ok rounds is_open extraction_ok open_ok standing_ok latest_ok intent_ok spoiled_ok phase_ok on_board_ok under_parent_ok under_ballot_ok only_ok contests_ok may_vote cryptograms_ok genesis_ok traits_known contest_ok threshold_ok authorizer_ok round_ok session_ok commitment_ok ballot_ok fingerprint_ok trustees_ok content_ok electors rising is_bad_roll on_roll on_roll_ok opening key_of verdict_ok key_ok signature_ok first_unmet checks fault_in head_fault closing judged word_at reading audit items-in
+unfolding sixteen twenty_one election traits_of set_words curve_of words_in verdicts_in words_of hashed if◌then◌otherwise◌ ◌⇒◌ part any count keep latest ones_in kind_of code_of count_of same_words pair low_zero bit in_words size every_below all_in item_length item_at row_of row_in table fits entry first_from last_from main_item end_after end_address parent_number session_number entry_of place_of history vote_of counted contents address_ok previous_ok parent_ok time_ok rounds is_open extraction_ok open_ok standing_ok latest_ok intent_ok spoiled_ok phase_ok on_board_ok under_parent_ok under_ballot_ok only_ok contests_ok may_vote cryptograms_ok genesis_ok traits_known contest_ok threshold_ok authorizer_ok round_ok session_ok commitment_ok ballot_ok fingerprint_ok trustees_ok content_ok electors rising is_bad_roll on_roll on_roll_ok opening key_of verdict_ok key_ok signature_ok first_unmet checks fault_in head_fault closing judged word_at reading audit items-in
 all-accepted = (refl, refl, refl, refl, refl, refl, refl)
 
 all_told : (told sixteen ≡ after_sixteen) × (told (sixteen then text) ≡ after_text) × (told (sixteen then session) ≡ after_session)
     × (told (sixteen then spoil) ≡ after_spoil)
     × (told (sixteen then cast) ≡ after_cast) × (told twenty_one ≡ after_twenty_one) × (told (twenty_one then cast_again) ≡ after_cast_again)
-unfolding sixteen twenty_one election traits_of traits_known set_words curve_of words_in words_of hashed if◌then◌else◌ part any count keep latest kind_of code_of count_of same_words item_length item_at entry first_from main_item end_after end_address parent_number session_number entry_of closer place_of history vote_of counted total_weight filled report_of number_word index_row_of index_rows ballot_rows table_after
+unfolding sixteen twenty_one election traits_of traits_known set_words curve_of words_in words_of hashed if◌then◌otherwise◌ part any count keep latest kind_of code_of count_of same_words item_length item_at entry first_from main_item end_after end_address parent_number session_number entry_of closer place_of history vote_of counted total_weight filled report_of number_word index_row_of index_rows ballot_rows table_after
 all_told = (refl, refl, refl, refl, refl, refl, refl)
 
 all-followed : (next sixteen after_sixteen text ≡ after_text) × (next sixteen after_sixteen session ≡ after_session)
     × (next sixteen after_sixteen spoil ≡ after_spoil)
     × (next sixteen after_sixteen cast ≡ after_cast) × (next twenty_one after_twenty_one cast_again ≡ after_cast_again)
-unfolding sixteen twenty_one election traits_of traits_known set_words curve_of words_in words_of hashed if◌then◌else◌ part any keep kind_of code_of count_of same_words item_length item_at filled ballot_rows rows_read first_of new_parent new_session closed_index new_vote new_ballots is_new_voter follow
+unfolding sixteen twenty_one election traits_of traits_known set_words curve_of words_in words_of hashed if◌then◌otherwise◌ part any keep kind_of code_of count_of same_words item_length item_at filled ballot_rows rows_read first_of new_parent new_session closed_index new_vote new_ballots is_new_voter follow
 all-followed = (refl, refl, refl, refl, refl)
 
 pub one-text : Pair sixteen text after_sixteen after_text
-unfolding sixteen election traits_of traits_known set_words curve_of words_in words_of hashed if◌then◌else◌ part kind_of count_of item_length item_at
+unfolding sixteen election traits_of traits_known set_words curve_of words_in words_of hashed if◌then◌otherwise◌ part kind_of count_of item_length item_at
 one-text = is-pair sixteen text (lit≤ tt) all-accepted.0 all-accepted.1 refl tt all_told.0 all_told.1 all-followed.0
 
 pub one-session : Pair sixteen session after_sixteen after_session
-unfolding sixteen election traits_of traits_known set_words curve_of words_in words_of hashed if◌then◌else◌ part kind_of count_of item_length item_at
+unfolding sixteen election traits_of traits_known set_words curve_of words_in words_of hashed if◌then◌otherwise◌ part kind_of count_of item_length item_at
 one-session = is-pair sixteen session (lit≤ tt) all-accepted.0 all-accepted.2 refl tt all_told.0 all_told.2 all-followed.1
 
 pub one-spoil : Pair sixteen spoil after_sixteen after_spoil
-unfolding sixteen election traits_of traits_known set_words curve_of words_in words_of hashed if◌then◌else◌ part kind_of count_of item_length item_at
+unfolding sixteen election traits_of traits_known set_words curve_of words_in words_of hashed if◌then◌otherwise◌ part kind_of count_of item_length item_at
 one-spoil = is-pair sixteen spoil (lit≤ tt) all-accepted.0 all-accepted.3 refl tt all_told.0 all_told.3 all-followed.2
 
 pub one-cast : Pair sixteen cast after_sixteen after_cast
-unfolding sixteen election traits_of traits_known set_words curve_of words_in words_of hashed if◌then◌else◌ part kind_of count_of item_length item_at
+unfolding sixteen election traits_of traits_known set_words curve_of words_in words_of hashed if◌then◌otherwise◌ part kind_of count_of item_length item_at
 one-cast = is-pair sixteen cast (lit≤ tt) all-accepted.0 all-accepted.4 refl tt all_told.0 all_told.4 all-followed.3
 
 pub cast-again : Pair twenty_one cast_again after_twenty_one after_cast_again
-unfolding sixteen twenty_one election traits_of traits_known set_words curve_of words_in words_of hashed if◌then◌else◌ part kind_of count_of item_length item_at
+unfolding sixteen twenty_one election traits_of traits_known set_words curve_of words_in words_of hashed if◌then◌otherwise◌ part kind_of count_of item_length item_at
 cast-again = is-pair twenty_one cast_again (lit≤ tt) all-accepted.5 all-accepted.6 refl tt all_told.5 all_told.6 all-followed.4

@@ -8,7 +8,7 @@ use mathlib.Core.Bool.{Bool, true, ◌&&◌}
 use mathlib.Core.List.{List, [], ◌∷◌, ◌++◌, map, cons-eq-cons}
 use lib.ListN.{length, replicate, take, length-replicate}
 use lib.Dec.{T, eqb, leb, lit≤}
-use Rattle.model.specs.Lists.{if◌then◌else◌, part, count, keep}
+use Rattle.model.specs.Lists.{if◌then◌otherwise◌, part, count, keep}
 use Rattle.model.specs.Words.{kind_of, count_of, same_words, pair}
 use Rattle.model.specs.Format.{Curve, secp256r1, secp384r1, secp521r1}
 use Rattle.model.specs.Traits.{traits_known, traits_of, set_words, curve_of, format_of}
@@ -112,22 +112,22 @@ abbrev past_today : History
 past_today = history toy board 21
 
 today-whole : T (whole election (cases secp256r1))
-unfolding traits_of set_words curve_of election words_in words_of hashed if◌then◌else◌ joined cases whole
+unfolding traits_of set_words curve_of election words_in words_of hashed if◌then◌otherwise◌ joined cases whole
 today-whole = tt
 
 today-held : map (λ (c : Case). held (format_in election) (joined c.notes) past_today) (cases secp256r1) ≡ map (λ (c : Case). c.answer) (cases secp256r1)
-unfolding traits_of set_words curve_of election words_in words_of hashed if◌then◌else◌ part kind_of count_of same_words pair item_length item_at entry first_from entry_of place_of history note_at noted_item item_before disagreement unless_wrong held_from joined cases
+unfolding traits_of set_words curve_of election words_in words_of hashed if◌then◌otherwise◌ part kind_of count_of same_words pair item_length item_at entry first_from entry_of place_of history note_at noted_item item_before disagreement unless_wrong held_from joined cases
 today-held = refl
 
 pub today-said : Every (Holds election) (cases secp256r1)
 today-said = all-by election past_today today (cases secp256r1) today-whole today-held
 
 larger-whole : T (whole larger (cases secp384r1))
-unfolding traits_of traits_known set_words curve_of words_in words_of hashed if◌then◌else◌ joined cases whole
+unfolding traits_of traits_known set_words curve_of words_in words_of hashed if◌then◌otherwise◌ joined cases whole
 larger-whole = tt
 
 larger-held : map (λ (c : Case). held (format_in larger) (joined c.notes) (past larger)) (cases secp384r1) ≡ map (λ (c : Case). c.answer) (cases secp384r1)
-unfolding traits_of traits_known set_words curve_of words_in words_of hashed if◌then◌else◌ part kind_of count_of same_words pair item_length item_at entry first_from entry_of place_of history note_at noted_item item_before disagreement unless_wrong held_from joined cases
+unfolding traits_of traits_known set_words curve_of words_in words_of hashed if◌then◌otherwise◌ part kind_of count_of same_words pair item_length item_at entry first_from entry_of place_of history note_at noted_item item_before disagreement unless_wrong held_from joined cases
 larger-held = refl
 
 pub larger-said : Every (Holds larger) (cases secp384r1)
@@ -148,11 +148,11 @@ twice_cases =
     ∷ []
 
 twice-whole : T (whole twice twice_cases)
-unfolding twice traits_of traits_known set_words curve_of words_in words_of hashed if◌then◌else◌ joined whole noted twice_cases
+unfolding twice traits_of traits_known set_words curve_of words_in words_of hashed if◌then◌otherwise◌ joined whole noted twice_cases
 twice-whole = tt
 
 twice-held : map (λ (c : Case). held (format_in twice) (joined c.notes) past_twice) twice_cases ≡ map (λ (c : Case). c.answer) twice_cases
-unfolding twice traits_of traits_known set_words curve_of words_in words_of hashed if◌then◌else◌ part kind_of count_of same_words pair item_length item_at entry first_from entry_of place_of history note_at noted_item item_before disagreement unless_wrong held_from joined noted twice_cases
+unfolding twice traits_of traits_known set_words curve_of words_in words_of hashed if◌then◌otherwise◌ part kind_of count_of same_words pair item_length item_at entry first_from entry_of place_of history note_at noted_item item_before disagreement unless_wrong held_from joined noted twice_cases
 twice-held = refl
 
 pub twice-said : Every (Holds twice) twice_cases
@@ -188,7 +188,7 @@ abbrev watched : Curve → List ℕ
 watched c = joined (note c 9 9 ∷ note c 18 18 ∷ note c 30 21 ∷ [])
 
 today-means : Means election past_today (watched secp256r1) 3 1 18 (replicate 8 18)
-unfolding traits_of set_words curve_of election words_in verdicts_in words_of hashed if◌then◌else◌ part kind_of count_of same_words pair item_length item_at entry first_from entry_of place_of history cut_board note_at noted_item item_before disagreement unless_wrong held_from joined
+unfolding traits_of set_words curve_of election words_in verdicts_in words_of hashed if◌then◌otherwise◌ part kind_of count_of same_words pair item_length item_at entry first_from entry_of place_of history cut_board note_at noted_item item_before disagreement unless_wrong held_from joined
 today-means = record { whole = refl; number = refl; agree = refl; item = refl; there = refl; words = refl; signed = refl }
 
 pub today-cut : (own_answer (take 18 election) ≡ accepted (take 18 (history toy board 21)))
@@ -196,7 +196,7 @@ pub today-cut : (own_answer (take 18 election) ≡ accepted (take 18 (history to
 today-cut = cut_by election past_today today (watched secp256r1) 3 1 18 _ today-means (lit≤ tt) (lit≤ tt)
 
 larger-means : Means larger (past larger) (watched secp384r1) 3 1 18 (replicate 12 (384 * 18))
-unfolding traits_of traits_known set_words curve_of words_in verdicts_in words_of hashed if◌then◌else◌ part kind_of count_of same_words pair item_length item_at entry first_from entry_of place_of history cut_board note_at noted_item item_before disagreement unless_wrong held_from joined
+unfolding traits_of traits_known set_words curve_of words_in verdicts_in words_of hashed if◌then◌otherwise◌ part kind_of count_of same_words pair item_length item_at entry first_from entry_of place_of history cut_board note_at noted_item item_before disagreement unless_wrong held_from joined
 larger-means = record { whole = refl; number = refl; agree = refl; item = refl; there = refl; words = refl; signed = refl }
 
 pub larger-cut : (own_answer (take 18 larger) ≡ accepted (take 18 (past larger)))
@@ -205,7 +205,7 @@ larger-cut = cut_by larger (past larger) larger-accepted (watched secp384r1) 3 1
 
 -- behind the first of two casts with one address: the second note, of three
 twice-means : Means twice past_twice (joined noted) 3 1 14 (replicate 16 (512 * 14))
-unfolding twice traits_of traits_known set_words curve_of words_in verdicts_in words_of hashed if◌then◌else◌ part kind_of count_of same_words pair item_length item_at entry first_from entry_of place_of history note_at noted_item item_before disagreement unless_wrong held_from joined noted
+unfolding twice traits_of traits_known set_words curve_of words_in verdicts_in words_of hashed if◌then◌otherwise◌ part kind_of count_of same_words pair item_length item_at entry first_from entry_of place_of history note_at noted_item item_before disagreement unless_wrong held_from joined noted
 twice-means = record { whole = refl; number = refl; agree = refl; item = refl; there = refl; words = cuts.2; signed = cuts.3 }
 
 pub twice_cut : (own_answer (take 14 twice) ≡ accepted (take 14 past_twice))
@@ -217,7 +217,7 @@ twice_cut = cut_by twice past_twice both-casts (joined noted) 3 1 14 _ twice-mea
 
 compared-by : let answer : ℕ → ComparingAnswer = comparing_answer (accepted (take 14 past_twice)) (accepted past_twice) in
     (answer 13 ≡ compared same) × (answer 14 ≡ compared (collision 13 14)) × (answer 12 ≡ compared apart)
-unfolding twice traits_of traits_known set_words curve_of words_in words_of hashed if◌then◌else◌ part count keep kind_of count_of same_words item_length item_at main_item entry_of place_of history backwards compare answer_later comparing_answer
+unfolding twice traits_of traits_known set_words curve_of words_in words_of hashed if◌then◌otherwise◌ part count keep kind_of count_of same_words item_length item_at main_item entry_of place_of history backwards compare answer_later comparing_answer
 compared-by = (refl, refl, refl)
 
 pub cut-compared : let answer : ℕ → ComparingAnswer = comparing_answer (own_answer (take 14 twice)) (own_answer twice) in
@@ -233,7 +233,7 @@ cut-compared =
 pub bad-widths : (outcome election (replicate 9 99) ≡ unread 23) × (outcome election (replicate 11 99) ≡ unread 23)
     × (outcome larger (replicate 10 99) ≡ unread 23) × (outcome election (replicate 14 99) ≡ unread 23)
     × (notes_audit (format_of toys []) [] [] [] (99 ∷ []) 0 0 ≡ unread 23)
-unfolding traits_of traits_known set_words curve_of election words_in words_of hashed if◌then◌else◌ first_unmet checked_first notes_audit
+unfolding traits_of traits_known set_words curve_of election words_in words_of hashed if◌then◌otherwise◌ first_unmet checked_first notes_audit
 bad-widths = (refl, refl, refl, refl, refl)
 
 -- then none is held against the board
@@ -243,11 +243,11 @@ bad-held = ap (agreement (format_in election) (replicate 9 99)) bad-widths.0
 -- nor where the audit refuses: no words are 3
 pub no-board : let ns = note secp256r1 18 18 in let o = notes_audit (format_of toys []) [] [] [] ns index_need ballot_need in
     (o ≡ refused 3 0) × (agreement (format_of toys []) ns o ≡ not_held)
-unfolding traits_of set_words curve_of if◌then◌else◌ electors rising is_bad_roll first_unmet audit checked_first notes_audit
+unfolding traits_of set_words curve_of if◌then◌otherwise◌ electors rising is_bad_roll first_unmet audit checked_first notes_audit
 no-board = (refl, refl)
 
 today-size : note_size (format_in election) ≡ 10
-unfolding traits_of set_words curve_of election words_in words_of hashed if◌then◌else◌
+unfolding traits_of set_words curve_of election words_in words_of hashed if◌then◌otherwise◌
 today-size = refl
 
 many : (n : ℕ) → 10250 ≡ n * 10 → n ≤ 1024 → ⊥

@@ -8,7 +8,7 @@ use mathlib.Core.List.{List, [], ◌∷◌, ◌++◌}
 use lib.ListN.{length, get_or, replicate, take, length-replicate}
 use lib.Dec.{lit≤}
 use lib.Count.{ones_in}
-use Rattle.model.specs.Lists.{if◌then◌else◌, ◌⇒◌, part, any, count, keep, latest, tabulate}
+use Rattle.model.specs.Lists.{if◌then◌otherwise◌, ◌⇒◌, part, any, count, keep, latest, tabulate}
 use Rattle.model.specs.Words.{kind_of, code_of, count_of, same_words, pair, low_zero, bit, in_words, size, every_below, all_in}
 use Rattle.model.specs.Format.{Curve, secp256r1, secp384r1, secp521r1}
 use Rattle.model.specs.Traits.{traits_known, traits_of, set_words, curve_of, format_of}
@@ -74,15 +74,15 @@ written-by ss rs h n a =
 -- ---- on today's curve, and on secp384r1: the cast is main item 14
 
 pub today : own_answer election ≡ accepted (history toy board 21)
-unfolding traits_of set_words curve_of election words_in words_of hashed if◌then◌else◌
+unfolding traits_of set_words curve_of election words_in words_of hashed if◌then◌otherwise◌
 today = is-accepted
 
 today-lengths : length (asked secp256r1) ≡ 5 * receipt_size (format_of toys board)
-unfolding traits_of set_words curve_of election words_in words_of hashed if◌then◌else◌
+unfolding traits_of set_words curve_of election words_in words_of hashed if◌then◌otherwise◌
 today-lengths = refl
 
 today-answers : receipt_answers (format_of toys board) (asked secp256r1) (history toy board 21) ≡ 14 ∷ no_cast ∷ no_cast ∷ no_cast ∷ 14 ∷ []
-unfolding traits_of set_words curve_of election words_in words_of hashed if◌then◌else◌ part count tabulate kind_of code_of count_of same_words item_length item_at first_from entry_of place_of history number_word receipt_at receipt_answer receipt_answers
+unfolding traits_of set_words curve_of election words_in words_of hashed if◌then◌otherwise◌ part count tabulate kind_of code_of count_of same_words item_length item_at first_from entry_of place_of history number_word receipt_at receipt_answer receipt_answers
 today-answers = refl
 
 pub today-written : written election (asked secp256r1) 7 ≡ 14 ∷ no_cast ∷ no_cast ∷ no_cast ∷ 14 ∷ 0 ∷ 0 ∷ []
@@ -92,11 +92,11 @@ today-written =
     ∙ ap (filled 7) today-answers
 
 larger-lengths : length (asked secp384r1) ≡ 5 * receipt_size (format_of toys (board_of larger))
-unfolding traits_of traits_known set_words curve_of words_in words_of hashed if◌then◌else◌
+unfolding traits_of traits_known set_words curve_of words_in words_of hashed if◌then◌otherwise◌
 larger-lengths = refl
 
 larger-answers : receipt_answers (format_in larger) (asked secp384r1) (past larger) ≡ 14 ∷ no_cast ∷ no_cast ∷ no_cast ∷ 14 ∷ []
-unfolding traits_of traits_known set_words curve_of words_in words_of hashed if◌then◌else◌ part count tabulate kind_of code_of count_of same_words item_length item_at first_from entry_of place_of history number_word receipt_at receipt_answer receipt_answers
+unfolding traits_of traits_known set_words curve_of words_in words_of hashed if◌then◌otherwise◌ part count tabulate kind_of code_of count_of same_words item_length item_at first_from entry_of place_of history number_word receipt_at receipt_answer receipt_answers
 larger-answers = refl
 
 pub larger-written : written larger (asked secp384r1) 5 ≡ 14 ∷ no_cast ∷ no_cast ∷ no_cast ∷ 14 ∷ []
@@ -122,7 +122,7 @@ twice =
     ∷ [])
 
 twice-accepted : items-in (own_answer twice) ≡ 15
-unfolding twice traits_of set_words curve_of words_in verdicts_in words_of hashed if◌then◌else◌ ◌⇒◌ part any count keep latest ones_in kind_of code_of count_of same_words pair low_zero bit in_words size every_below all_in item_length item_at row_of row_in table fits entry first_from last_from main_item end_after end_address parent_number session_number entry_of place_of history vote_of counted contents address_ok previous_ok parent_ok time_ok rounds is_open extraction_ok open_ok standing_ok latest_ok intent_ok spoiled_ok phase_ok on_board_ok under_parent_ok under_ballot_ok only_ok contests_ok may_vote cryptograms_ok genesis_ok traits_known contest_ok threshold_ok authorizer_ok round_ok session_ok commitment_ok ballot_ok fingerprint_ok trustees_ok content_ok electors rising is_bad_roll on_roll on_roll_ok opening key_of verdict_ok key_ok signature_ok first_unmet checks fault_in head_fault closing judged word_at reading audit items-in
+unfolding twice traits_of set_words curve_of words_in verdicts_in words_of hashed if◌then◌otherwise◌ ◌⇒◌ part any count keep latest ones_in kind_of code_of count_of same_words pair low_zero bit in_words size every_below all_in item_length item_at row_of row_in table fits entry first_from last_from main_item end_after end_address parent_number session_number entry_of place_of history vote_of counted contents address_ok previous_ok parent_ok time_ok rounds is_open extraction_ok open_ok standing_ok latest_ok intent_ok spoiled_ok phase_ok on_board_ok under_parent_ok under_ballot_ok only_ok contests_ok may_vote cryptograms_ok genesis_ok traits_known contest_ok threshold_ok authorizer_ok round_ok session_ok commitment_ok ballot_ok fingerprint_ok trustees_ok content_ok electors rising is_bad_roll on_roll on_roll_ok opening key_of verdict_ok key_ok signature_ok first_unmet checks fault_in head_fault closing judged word_at reading audit items-in
 twice-accepted = refl
 
 abbrev pub past_twice : History
@@ -132,14 +132,14 @@ pub both-casts : own_answer twice ≡ accepted past_twice
 both-casts = accepted-by (format_in twice) (board_of twice) (verdicts_in twice) roll index_need ballot_need 15 _ refl twice-accepted (lit≤ tt)
 
 twice-length : length (receipt secp521r1 14) ≡ 1 * receipt_size (format_in twice)
-unfolding twice traits_of traits_known set_words curve_of words_in words_of hashed if◌then◌else◌
+unfolding twice traits_of traits_known set_words curve_of words_in words_of hashed if◌then◌otherwise◌
 twice-length = refl
 
 -- items 14 and 15 are main items 13 and 14; before item 14 there is no cast
 twice-answers : (receipt_answers (format_in twice) (receipt secp521r1 14) past_twice ≡ 13 ∷ [])
     × (receipt_answers (format_in twice) (receipt secp521r1 14) (take 14 past_twice) ≡ 13 ∷ [])
     × (receipt_answers (format_in twice) (receipt secp521r1 14) (take 13 past_twice) ≡ no_cast ∷ [])
-unfolding twice traits_of traits_known set_words curve_of words_in words_of hashed if◌then◌else◌ part count tabulate kind_of code_of count_of same_words item_length item_at first_from entry_of place_of history number_word receipt_at receipt_answer receipt_answers
+unfolding twice traits_of traits_known set_words curve_of words_in words_of hashed if◌then◌otherwise◌ part count tabulate kind_of code_of count_of same_words item_length item_at first_from entry_of place_of history number_word receipt_at receipt_answer receipt_answers
 twice-answers = (refl, refl, refl)
 
 pub twice-written : written twice (receipt secp521r1 14) 2 ≡ 13 ∷ 0 ∷ []
@@ -152,11 +152,11 @@ twice-written =
 
 pub cuts : (cut_board (format_in twice) (board_of twice) 13 ≡ board_of (take 13 twice)) × (cut_verdicts (verdicts_in twice) 13 ≡ verdicts_in (take 13 twice))
     × (cut_board (format_in twice) (board_of twice) 14 ≡ board_of (take 14 twice)) × (cut_verdicts (verdicts_in twice) 14 ≡ verdicts_in (take 14 twice))
-unfolding twice traits_of traits_known set_words curve_of words_in verdicts_in words_of hashed if◌then◌else◌ count_of item_length place_of cut_board
+unfolding twice traits_of traits_known set_words curve_of words_in verdicts_in words_of hashed if◌then◌otherwise◌ count_of item_length place_of cut_board
 cuts = (refl, refl, refl, refl)
 
 itself : part (0 * receipt_size (format_in twice)) (receipt_size (format_in twice)) (receipt secp521r1 14) ≡ receipt secp521r1 14
-unfolding twice traits_of traits_known set_words curve_of words_in words_of hashed if◌then◌else◌ part
+unfolding twice traits_of traits_known set_words curve_of words_in words_of hashed if◌then◌otherwise◌ part
 itself = refl
 
 -- what is written of a board for the receipt rs alone
@@ -187,22 +187,22 @@ cuts-written = (
 pub bad-widths : (outcome election (replicate 23 99) 5 ≡ unread 22) × (outcome election (replicate 25 99) 5 ≡ unread 22)
     × (outcome larger (replicate 24 99) 5 ≡ unread 22) × (outcome election (replicate 36 99) 5 ≡ unread 22)
     × (receipts_audit (format_of toys []) [] [] [] (99 ∷ []) 0 0 0 ≡ unread 22)
-unfolding traits_of traits_known set_words curve_of election words_in words_of hashed if◌then◌else◌ first_unmet checked_first receipts_audit
+unfolding traits_of traits_known set_words curve_of election words_in words_of hashed if◌then◌otherwise◌ first_unmet checked_first receipts_audit
 bad-widths = (refl, refl, refl, refl, refl)
 
 -- 2: four words for five receipts; the buffer is as it was
 pub short-buffer : (outcome election (asked secp256r1) 4 ≡ unread 2) × (written election (asked secp256r1) 4 ≡ 8 ∷ 8 ∷ 8 ∷ 8 ∷ [])
-unfolding traits_of set_words curve_of election words_in words_of hashed if◌then◌else◌ first_unmet checked_first buffer_after receipts_audit
+unfolding traits_of set_words curve_of election words_in words_of hashed if◌then◌otherwise◌ first_unmet checked_first buffer_after receipts_audit
 short-buffer = (refl, refl)
 
 -- the audit's: no words are 3, and the buffer is as it was
 pub no-board : let o = receipts_audit (format_of toys []) [] [] [] (receipt secp256r1 18) index_need ballot_need 1 in
     (o ≡ refused 3 0) × (answers_after (format_of toys []) (receipt secp256r1 18) o (8 ∷ []) ≡ 8 ∷ [])
-unfolding traits_of set_words curve_of if◌then◌else◌ electors rising is_bad_roll first_unmet audit checked_first buffer_after receipts_audit
+unfolding traits_of set_words curve_of if◌then◌otherwise◌ electors rising is_bad_roll first_unmet audit checked_first buffer_after receipts_audit
 no-board = (refl, refl)
 
 today-size : receipt_size (format_of toys board) ≡ 24
-unfolding traits_of set_words curve_of election words_in words_of hashed if◌then◌else◌
+unfolding traits_of set_words curve_of election words_in words_of hashed if◌then◌otherwise◌
 today-size = refl
 
 many : (n : ℕ) → 12312 ≡ n * 24 → n ≤ 512 → ⊥

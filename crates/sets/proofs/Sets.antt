@@ -12,7 +12,7 @@ use lib.Dec.{eqb, ltb, eqb-suc-zero}
 use lib.ListN.{length, get_or, set, replicate, take, drop, length-take, get_or-eq_default}
 use lib.Seq.{get_or-take, get_or-drop, get_or-set_same, get_or-set_other}
 use borrow.Author.Tests.{eqb-true, eqb-false, ne_eqb, lt-ltb, ltb-true, ltb-false}
-use Rattle.model.specs.Lists.{if◌then◌else◌, ◌⇒◌, part}
+use Rattle.model.specs.Lists.{if◌then◌otherwise◌, ◌⇒◌, part}
 use Rattle.model.specs.Words.{same_words, bit, in_words, member, size, every_below, count_below, all_in}
 use Rattle.model.proofs.Tests.{by-test, every_below-ext}
 use Rattle.model.proofs.Parts.{length_part, part-add, part-one}
@@ -173,7 +173,7 @@ module _ (l : List ℕ) (p n : ℕ) (small : Words l p n) (inside : p + n ≤ le
 -- ---- a set within the empty one
 
 none_below : (n : ℕ) (m : ℕ → Bool) → every_below n (λ j. m j ⇒ false) ≡ eqb (count_below n m) 0
-unfolding every_below count_below ◌⇒◌ if◌then◌else◌
+unfolding every_below count_below ◌⇒◌ if◌then◌otherwise◌
 none_below zero m = refl
 none_below (suc n) m =
     by-test (m n)
@@ -214,8 +214,8 @@ member-or s t j = bit-or (s (j / 32)) (t (j / 32)) (j % 32)
 
 -- the code's `words[a] = words[a] | w`
 pub set-put : (words : List ℕ) (a w k : ℕ) → a < length words
-    → get_or (set words a (bit_or (get_or words a 0) w)) k 0 ≡ (if eqb a k then bit_or (get_or words k 0) w else get_or words k 0)
-unfolding if◌then◌else◌
+    → get_or (set words a (bit_or (get_or words a 0) w)) k 0 ≡ (if eqb a k then bit_or (get_or words k 0) w otherwise get_or words k 0)
+unfolding if◌then◌otherwise◌
 set-put words a w k m =
     by-test (eqb a k)
     (λ q. rw (q, ← eqb-true a k q) (get_or-set_same words a _ 0 m))
@@ -231,7 +231,7 @@ module _ (old l : List ℕ) (p : ℕ) where
 
   pub joined-next : (words : List ℕ) (k : ℕ) → k < length words → k < 8 → p + k < length l → Joined words k
       → Joined (set words k (bit_or (get_or words k 0) (get_or l (p + k) 0))) (k + 1)
-  unfolding if◌then◌else◌
+  unfolding if◌then◌otherwise◌
   joined-next words k small few inside all j m =
       set-put words k (get_or l (p + k) 0) j small
       ∙ by-test (eqb k j)

@@ -4,7 +4,7 @@
 
 ghost use Rattle.std.specs.Prelude.{◌≡◌, ℕ, ◌+◌, ◌*◌, ◌/◌, ◌%◌, ◌^◌, ◌≤◌, ◌<◌, length, get_or, eqb};
 ghost use Rattle.std.specs.Int.Bits.{bit_or};
-ghost use Rattle.model.specs.Lists.{if◌then◌else◌, part};
+ghost use Rattle.model.specs.Lists.{if◌then◌otherwise◌, part};
 ghost use Rattle.model.specs.Words.{set_bits, member, size, all_in};
 
 use format::format::Format;
@@ -50,7 +50,7 @@ pub fn count(a: &[u32], at: usize, n: usize) -> u32
 pub fn with(set: [u32; 8], j: u32) -> [u32; 8]
     requires { j < 256 }
     ensures { (k : ℕ) → k < 8
-        → get_or result k 0 ≡ (if eqb (j / set_bits) k then bit_or (get_or set k 0) (2 ^ (j % set_bits)) else get_or set k 0) }
+        → get_or result k 0 ≡ (if eqb (j / set_bits) k then bit_or (get_or set k 0) (2 ^ (j % set_bits)) otherwise get_or set k 0) }
 {
     let mut words = set;
     let number = words::wide(j);

@@ -10,7 +10,7 @@ use mathlib.Core.List.{List, [], ◌∷◌}
 use lib.ListN.{length, get_or, replicate}
 use lib.Dec.{T, eqb, eqb-suc-zero}
 use borrow.Author.Tests.{eq-eqb, ne_eqb}
-use Rattle.model.specs.Lists.{if◌then◌else◌, part, keep}
+use Rattle.model.specs.Lists.{if◌then◌otherwise◌, part, keep}
 use Rattle.model.specs.Words.{kind_of, count_of, pair}
 use Rattle.model.specs.Codes.{genesis_type, session_type}
 use Rattle.model.specs.Format.{time_size}
@@ -185,7 +185,7 @@ module _ {board index : List ℕ} {s : State} {c : Known} (a : AtItem board inde
 -- ---- the last main item
 
 last-bound-from : (p : Entry → Bool) (k found : ℕ) (es : List Entry) → found ≤ k → last_from (suc k) found p es ≤ k + length es
-unfolding last_from if◌then◌else◌
+unfolding last_from if◌then◌otherwise◌
 last-bound-from p k found [] l = omega arith
 last-bound-from p k found (e ∷ es) l =
     by-test (p e)
@@ -198,7 +198,7 @@ last-bound p h = omega (arith, last-bound-from p 0 0 h (le_refl 0))
 module _ (board : List ℕ) where
   -- it stands under its number, and its address is the end address; without one that is zeros
   last_main-entry : (n : ℕ) → last_main (before board n) ≡ item_no (before board n) (last main (before board n))
-  unfolding history last_from keep main_item entry if◌then◌else◌
+  unfolding history last_from keep main_item entry if◌then◌otherwise◌
   last_main-entry zero = refl
   last_main-entry (suc n) =
       let h = before board n in
@@ -214,8 +214,8 @@ module _ (board : List ℕ) where
 
   end_address-entry : (n : ℕ)
       → end_address (format_of board) (before board n)
-      ≡ (if eqb (last main (before board n)) 0 then replicate (format_of board).address 0 else (item_no (before board n) (last main (before board n))).address)
-  unfolding history last_from if◌then◌else◌
+      ≡ (if eqb (last main (before board n)) 0 then replicate (format_of board).address 0 otherwise (item_no (before board n) (last main (before board n))).address)
+  unfolding history last_from if◌then◌otherwise◌
   end_address-entry zero = end_empty
   end_address-entry (suc n) =
       let h = before board n in
@@ -224,7 +224,7 @@ module _ (board : List ℕ) where
       (λ q. rw (end_address-snoc h e (format_of board), last_snoc main h e, q, eqb-suc-zero (length h))
       (ap (λ (x : Entry). x.item.address) (sym (entry-snoc h e))))
       (λ q. rw (end_address-snoc h e (format_of board), last_snoc main h e, q) (end_address-entry n
-      ∙ ap (λ (x : Entry). if eqb (last main h) 0 then replicate (format_of board).address 0 else x.item.address)
+      ∙ ap (λ (x : Entry). if eqb (last main h) 0 then replicate (format_of board).address 0 otherwise x.item.address)
       (sym (entry-append h (e ∷ []) (last main h) (last-bound main h)))))
 
 module _ {board : List ℕ} {s : State} (a : Stands board s) where
@@ -235,9 +235,9 @@ module _ {board : List ℕ} {s : State} (a : Stands board s) where
   last-item = rw a.last (last_main-entry board s.items)
 
   pub end_none : s.last ≡ 0 → end_address (format_of board) (before board s.items) ≡ replicate (format_of board).address 0
-  unfolding if◌then◌else◌
+  unfolding if◌then◌otherwise◌
   end_none q = end_address-entry board s.items ∙ rw (eq-eqb _ _ (sym a.last ∙ q))
 
   pub end-last : s.last ≢ 0 → end_address (format_of board) (before board s.items) ≡ (item_no (before board s.items) s.last).address
-  unfolding if◌then◌else◌
+  unfolding if◌then◌otherwise◌
   end-last q = end_address-entry board s.items ∙ rw (← a.last, ne_eqb _ _ q)

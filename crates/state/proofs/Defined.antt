@@ -9,7 +9,7 @@ use mathlib.Core.List.{List, [], ◌∷◌, ◌++◌}
 use lib.Dec.{eqb}
 use lib.ListN.{length, get_or}
 use borrow.Author.Tests.{eqb-true, eqb-false, eq-eqb, ne_eqb}
-use Rattle.model.specs.Lists.{if◌then◌else◌, part, any}
+use Rattle.model.specs.Lists.{if◌then◌otherwise◌, part, any}
 use Rattle.model.specs.Words.{set_bits, bit, in_words, member, all_in}
 use Rattle.model.specs.Codes.{contest_type}
 use Rattle.model.specs.Item.{word}
@@ -48,7 +48,7 @@ eqb-digits m n =
     (λ r. rw r)))
 
 member-with : (w j : ℕ) (e : Entry) → bit (contests_after (j / 32) w e.item) (j % 32) ≡ (bit w (j % 32) || defines j e)
-unfolding contests_after if◌then◌else◌
+unfolding contests_after if◌then◌otherwise◌
 member-with w j e =
     let n = word 0 e.item in
     rw (eqb-digits n j)

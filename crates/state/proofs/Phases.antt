@@ -4,7 +4,7 @@ use native.Mathlib.Omega.{arith}
 use mathlib.Core.Path.{◌≡◌}
 use mathlib.Core.Bool.{true, false}
 use borrow.Author.Tests.{lt-leb}
-use Rattle.model.specs.Lists.{if◌then◌else◌}
+use Rattle.model.specs.Lists.{if◌then◌otherwise◌}
 use Rattle.model.specs.Words.{between}
 use Rattle.model.proofs.Tests.{by-test, passes, facts}
 use Rattle.format.specs.Phase.{phase_number}
@@ -16,7 +16,7 @@ apart a b c d n l t = let in-low = simp facts at (passes t) in rw (lt-leb c n (o
 
 module _ (n : ℕ) where
   pub config-phase : eqb (phase_number n) 0 ≡ between 1 6 n
-  unfolding phase_number if◌then◌else◌
+  unfolding phase_number if◌then◌otherwise◌
   config-phase =
       by-test (between 1 6 n) (λ q. rw q) (λ q. rw q
       (by-test (between 16 21 n) (λ r. rw r) (λ r. rw r
@@ -24,7 +24,7 @@ module _ (n : ℕ) where
       (by-test (between 48 51 n) (λ t. rw t) (λ t. rw t)))))))
 
   pub voting-phase : eqb (phase_number n) 1 ≡ between 16 21 n
-  unfolding phase_number if◌then◌else◌
+  unfolding phase_number if◌then◌otherwise◌
   voting-phase =
       by-test (between 1 6 n) (λ q. rw (q, apart 1 6 16 21 n (omega arith) q)) (λ q. rw q
       (by-test (between 16 21 n) (λ r. rw r) (λ r. rw r
@@ -32,7 +32,7 @@ module _ (n : ℕ) where
       (by-test (between 48 51 n) (λ t. rw t) (λ t. rw t)))))))
 
   pub extraction-phase : eqb (phase_number n) 2 ≡ between 32 34 n
-  unfolding phase_number if◌then◌else◌
+  unfolding phase_number if◌then◌otherwise◌
   extraction-phase =
       by-test (between 1 6 n) (λ q. rw (q, apart 1 6 32 34 n (omega arith) q)) (λ q. rw q
       (by-test (between 16 21 n) (λ r. rw (r, apart 16 21 32 34 n (omega arith) r)) (λ r. rw r
@@ -40,7 +40,7 @@ module _ (n : ℕ) where
       (by-test (between 48 51 n) (λ t. rw t) (λ t. rw t)))))))
 
   pub track-phase : eqb (phase_number n) 3 ≡ between 48 51 n
-  unfolding phase_number if◌then◌else◌
+  unfolding phase_number if◌then◌otherwise◌
   track-phase =
       by-test (between 1 6 n) (λ q. rw (q, apart 1 6 48 51 n (omega arith) q)) (λ q. rw q
       (by-test (between 16 21 n) (λ r. rw (r, apart 16 21 48 51 n (omega arith) r)) (λ r. rw r

@@ -11,7 +11,7 @@ use lib.Bits.{bit_or}
 use lib.ListN.{length, get_or}
 use lib.Dec.{T, eqb, eqb→eq}
 use borrow.Author.Tests.{eqb-true, eqb-false, eq-eqb, ne_eqb}
-use Rattle.model.specs.Lists.{if◌then◌else◌, any, keep, latest}
+use Rattle.model.specs.Lists.{if◌then◌otherwise◌, any, keep, latest}
 use Rattle.model.specs.Words.{set_bits, bit, in_words}
 use Rattle.model.specs.Codes.{round_type}
 use Rattle.model.specs.Format.{Format}
@@ -91,7 +91,7 @@ or-none false b q = (refl, q)
 
 module _ (t : Entry → Bool) where
   last-bound-from : (k found : ℕ) (es : List Entry) → found ≤ k → last_from (suc k) found t es ≤ k + length es
-  unfolding last_from if◌then◌else◌
+  unfolding last_from if◌then◌otherwise◌
   last-bound-from k found [] l = omega arith
   last-bound-from k found (e ∷ es) l =
       by-test (t e)
@@ -99,29 +99,29 @@ module _ (t : Entry → Bool) where
       (λ q. rw q (omega (arith, last-bound-from (suc k) found es (omega arith))))
 
   last_entry-none : (d : Entry) (es : List Entry) → any t es ≡ false → last_entry d t es ≡ d
-  unfolding last_entry any if◌then◌else◌
+  unfolding last_entry any if◌then◌otherwise◌
   last_entry-none d [] q = refl
   last_entry-none d (e ∷ es) q = let (a, b) = or-none (t e) (any t es) q in rw a (last_entry-none d es b)
 
   -- whether the last one passes p
   module _ (p : Item → Bool) where
     unfoldable last_passes : List Entry → Bool
-    unfolding if◌then◌else◌
+    unfolding if◌then◌otherwise◌
     last_passes [] = false
-    last_passes (e ∷ es) = if any t es then last_passes es else t e && p e.item
+    last_passes (e ∷ es) = if any t es then last_passes es otherwise t e && p e.item
 
     passes_none : (es : List Entry) → any t es ≡ false → last_passes es ≡ false
-    unfolding last_passes any if◌then◌else◌
+    unfolding last_passes any if◌then◌otherwise◌
     passes_none [] q = refl
     passes_none (e ∷ es) q = let (a, b) = or-none (t e) (any t es) q in rw (b, a)
 
     passes-skip : (e : Entry) (es : List Entry) → t e ≡ false → last_passes (e ∷ es) ≡ last_passes es
-    unfolding last_passes if◌then◌else◌
+    unfolding last_passes if◌then◌otherwise◌
     passes-skip e es q = by-test (any t es) (λ a. rw a) (λ a. rw (a, q, passes_none es a))
 
     -- that last one, where d is none of the entries
     passes-last : (d : Entry) (es : List Entry) → last_passes es ≡ (any t es && p (last_entry d t es).item)
-    unfolding last_passes last_entry any if◌then◌else◌
+    unfolding last_passes last_entry any if◌then◌otherwise◌
     passes-last d [] = refl
     passes-last d (e ∷ es) =
         by-test (any t es)
@@ -133,7 +133,7 @@ module _ (t : Entry → Bool) where
 abbrev pub RoundSmall : Entry → Type 0
 RoundSmall e = T (typed round_type e) → round_number e.item < slots
 
-pub round_at-snoc : (h : History) (e : Entry) (j : ℕ) → round_at (h ++ (e ∷ [])) j ≡ (if numbered j e then suc (length h) else round_at h j)
+pub round_at-snoc : (h : History) (e : Entry) (j : ℕ) → round_at (h ++ (e ∷ [])) j ≡ (if numbered j e then suc (length h) otherwise round_at h j)
 round_at-snoc h e j = last_snoc (numbered j) h e
 
 pub round_at-none : (j : ℕ) → round_at [] j ≡ 0
@@ -148,7 +148,7 @@ eqb-sym m n =
     by-test (eqb m n) (λ q. rw q (sym (eq-eqb n m (sym (eqb-true m n q))))) (λ q. rw q (sym (ne_eqb n m (λ e. eqb-false m n q (sym e)))))
 
 any_same : (r : Item) (es : List Entry) → any (same_round r) (items_with (typed round_type) es) ≡ any (numbered (round_number r)) es
-unfolding any keep if◌then◌else◌
+unfolding any keep if◌then◌otherwise◌
 any_same r [] = refl
 any_same r (e ∷ es) =
     by-test (typed round_type e)
@@ -165,7 +165,7 @@ module _ (p : Item → Bool) where
   slot-other e es j d = passes-skip (numbered j) p e es (rw (ne_eqb (round_number e.item) j d) (and-false (typed round_type e)))
 
   slot-later : (e : Entry) (es : List Entry) (j : ℕ) → any (numbered (round_number e.item)) es ≡ true → slot (e ∷ es) j ≡ slot es j
-  unfolding last_passes if◌then◌else◌
+  unfolding last_passes if◌then◌otherwise◌
   slot-later e es j a =
       let n = round_number e.item in
       by-test (eqb n j)
@@ -174,12 +174,12 @@ module _ (p : Item → Bool) where
 
   slot-own : (e : Entry) (es : List Entry) → typed round_type e ≡ true → any (numbered (round_number e.item)) es ≡ false
       → slot (e ∷ es) (round_number e.item) ≡ p e.item
-  unfolding last_passes if◌then◌else◌
+  unfolding last_passes if◌then◌otherwise◌
   slot-own e es q a = let n = round_number e.item in rw (a, q, eq-eqb n n refl)
 
   any-slots : (m : ℕ) (es : List Entry) → Every (λ e. T (typed round_type e) → round_number e.item < m) es
       → any p (latest same_round (items_with (typed round_type) es)) ≡ any_below m (slot es)
-  unfolding any keep latest if◌then◌else◌
+  unfolding any keep latest if◌then◌otherwise◌
   any-slots m [] small = sym (any_below-false m (slot []) (λ j. passes_none (numbered j) p [] refl))
   any-slots m (e ∷ es) small =
       let rest = any-slots m es small.1 in
@@ -201,8 +201,8 @@ module _ (p : Item → Bool) where
 
 -- ---- the contests that the open rounds enable
 
-bit-if : (a b : Bool) (w j : ℕ) → bit (if a && b then w else 0) j ≡ (a && (b && bit w j))
-unfolding if◌then◌else◌
+bit-if : (a b : Bool) (w j : ℕ) → bit (if a && b then w otherwise 0) j ≡ (a && (b && bit w j))
+unfolding if◌then◌otherwise◌
 bit-if true true w j = refl
 bit-if true false w j = bit-zero j
 bit-if false b w j = bit-zero j

@@ -10,7 +10,7 @@ use lib.ListN.{length, get_or, set}
 use lib.Seq.{get_or-set_same, get_or-set_other}
 use lib.Dec.{eqb}
 use borrow.Author.Tests.{eq-eqb, ne_eqb, eqb-true, eqb-false}
-use Rattle.model.specs.Lists.{if◌then◌else◌, count, keep, latest}
+use Rattle.model.specs.Lists.{if◌then◌otherwise◌, count, keep, latest}
 use Rattle.model.specs.Words.{between, main_kind, set_bits}
 use Rattle.model.specs.Codes.{contest_type, threshold_type, authorizer_type, round_type, intent_type}
 use Rattle.model.specs.Item.{code}
@@ -95,19 +95,19 @@ mains-few board s stands = omega (arith, stands.mains, count-few main (before bo
 
 module _ {board index : List ℕ} {n : ℕ} {c : Known} (p : Passing board index n c) where
   pub contests-new : (k old : ℕ) → c.item.head.code ≡ contest_type
-      → let j = get_or board c.item.content 0 in (if eqb (j / set_bits) k then bit_or old (2 ^ (j % set_bits)) else old) ≡ contests_after k old (item_after board n)
-  unfolding contests_after if◌then◌else◌
+      → let j = get_or board c.item.content 0 in (if eqb (j / set_bits) k then bit_or old (2 ^ (j % set_bits)) otherwise old) ≡ contests_after k old (item_after board n)
+  unfolding contests_after if◌then◌otherwise◌
   contests-new k old q =
       let (inside, same, small) = contest-number p q in
       rw (same, ← next-code (passing-next p), eq-eqb _ _ q)
 
   pub contests-old : (k old : ℕ) → (c.item.head.code ≡ contest_type → ⊥) → old ≡ contests_after k old (item_after board n)
-  unfolding contests_after if◌then◌else◌
+  unfolding contests_after if◌then◌otherwise◌
   contests-old k old q = rw (← next-code (passing-next p), ne_eqb _ _ q)
 
   pub slot-new : (old : List ℕ) (k : ℕ) → c.item.head.code ≡ round_type → length old ≡ 16 → k ≡ get_or board c.item.content 0
       → (j : ℕ) → j < 16 → get_or (set old k (n + 1)) j 0 ≡ slot_after (get_or old j 0) n j (item_after board n)
-  unfolding slot_after if◌then◌else◌
+  unfolding slot_after if◌then◌otherwise◌
   slot-new old k q size is j l =
       let (inside, same, small) = round-number p q in
       let code_is : eqb (code (item_after board n)) round_type ≡ true = rw (← next-code (passing-next p)) (eq-eqb _ _ q) in
@@ -118,7 +118,7 @@ module _ {board index : List ℕ} {n : ℕ} {c : Known} (p : Passing board index
 
   pub slot-old : (old : List ℕ) → (c.item.head.code ≡ round_type → ⊥)
       → (j : ℕ) → j < 16 → get_or old j 0 ≡ slot_after (get_or old j 0) n j (item_after board n)
-  unfolding slot_after if◌then◌else◌
+  unfolding slot_after if◌then◌otherwise◌
   slot-old old q j l = rw (← next-code (passing-next p), ne_eqb _ _ q)
 
 -- ---- the whole

@@ -3,7 +3,7 @@
 -- enable. The laws that the rules can be tested by them are in proofs/. Paper: "Phases", "Content". Assumes nothing.
 use Rattle.std.specs.Prelude.{ℕ, zero, suc, Bool, false, not, ◌&&◌, ◌||◌, List, [], ◌∷◌, get_or, eqb}
 use Rattle.std.specs.Int.Bits.{bit_or}
-use Rattle.model.specs.Lists.{if◌then◌else◌}
+use Rattle.model.specs.Lists.{if◌then◌otherwise◌}
 use Rattle.model.specs.Codes.{round_type}
 use Rattle.model.specs.History.{History, Entry, item_no, last, typed}
 use Rattle.model.specs.Phase.{round_number, round_contests, is_open}
@@ -35,10 +35,10 @@ slots = 16
 
 -- word k of the contests of the round with the number j, where there is one and it is open at the time t
 unfoldable pub open_word : ℕ → History → ℕ → ℕ → ℕ
-unfolding if◌then◌else◌
+unfolding if◌then◌otherwise◌
 open_word t h k j =
     let r = item_no h (round_at h j) in
-    if not (eqb (round_at h j) 0) && is_open t r then get_or (round_contests r) k 0 else 0
+    if not (eqb (round_at h j) 0) && is_open t r then get_or (round_contests r) k 0 otherwise 0
 
 -- word k of the contests that the rounds open at the time t enable
 unfoldable pub enabled_word : ℕ → History → ℕ → ℕ

@@ -8,7 +8,7 @@ use mathlib.Core.List.{List, [], ◌∷◌, ◌++◌, append_assoc, append-nil}
 use lib.ListN.{length, get_or, take, drop, length-take, length-drop}
 use lib.Seq.{take-suc, take_all}
 use lib.Dec.{T, lit<}
-use Rattle.model.specs.Lists.{if◌then◌else◌, part, count}
+use Rattle.model.specs.Lists.{if◌then◌otherwise◌, part, count}
 use Rattle.model.specs.Words.{kind_of, count_of}
 use Rattle.model.specs.Item as model
 use Rattle.model.specs.Format.{Format}
@@ -48,7 +48,7 @@ no_main t = t
 
 -- there is at least one main item up to a main item
 some-main : (es : List Entry) (k : ℕ) → T (main (get_or es k absent)) → 1 ≤ count main (take (suc k) es)
-unfolding count if◌then◌else◌
+unfolding count if◌then◌otherwise◌
 some-main [] k t = absurd (no_main t)
 some-main (e ∷ es) zero t = rw (is_true (main e) t) (omega arith)
 some-main (e ∷ es) (suc k) t =
@@ -56,14 +56,14 @@ some-main (e ∷ es) (suc k) t =
     by-test (main e) (λ q. rw q (omega arith)) (λ q. rw q rest)
 
 turn : (j m : ℕ) (e : Entry) (es : List Entry) → 1 ≤ m
-    → main_from j (if main e then suc m else m) (e ∷ es) ≡ main_from (suc j) m es
-unfolding main_from if◌then◌else◌
+    → main_from j (if main e then suc m otherwise m) (e ∷ es) ≡ main_from (suc j) m es
+unfolding main_from if◌then◌otherwise◌
 turn j zero e es l = absurd (omega arith)
 turn j (suc zero) e es l = by-test (main e) (λ q. rw (q, q)) (λ q. rw (q, q))
 turn j (suc (suc m)) e es l = by-test (main e) (λ q. rw (q, q)) (λ q. rw (q, q))
 
 main-from : (j : ℕ) (es : List Entry) (k : ℕ) → T (main (get_or es k absent)) → main_from j (count main (take (suc k) es)) es ≡ j + k
-unfolding main_from count if◌then◌else◌
+unfolding main_from count if◌then◌otherwise◌
 main-from j [] k t = absurd (no_main t)
 main-from j (e ∷ es) zero t = rw (is_true (main e) t, is_true (main e) t, add-zero)
 main-from j (e ∷ es) (suc k) t =

@@ -10,7 +10,7 @@ use lib.ListN.{length, get_or, take, drop, replicate, length-append, length-repl
 use lib.Seq.{sets, sets-eq, length-sets, take-append_seam, drop-append-add, drop-append_seam, get_or-append-add, take_all, drop-length, drop-cons, take-suc}
 use lib.Dec.{eqb}
 use borrow.Author.Tests.{eq-eqb, ne_eqb}
-use Rattle.model.specs.Lists.{if◌then◌else◌, keep}
+use Rattle.model.specs.Lists.{if◌then◌otherwise◌, keep}
 use Rattle.model.specs.Counted.{Vote, without, total_weight}
 use Rattle.model.specs.Audit.{ballot_row}
 use Rattle.model.specs.Report.{ballot_rows, filled}
@@ -112,18 +112,18 @@ module _ (voter n : ℕ) (xs : List Vote) (ballots : List ℕ) (kept k : ℕ) (l
   is-present = d.words ∙ rw (add-one k, drop-cons xs k none more)
 
   kept-before : (b : Bool) → eqb vote.voter voter ≡ b
-      → without voter (take (k + 1) xs) ≡ (if b then without voter (take k xs) else without voter (take k xs) ++ (vote ∷ []))
-  unfolding keep if◌then◌else◌
+      → without voter (take (k + 1) xs) ≡ (if b then without voter (take k xs) otherwise without voter (take k xs) ++ (vote ∷ []))
+  unfolding keep if◌then◌otherwise◌
   kept-before b e = rw (add-one k, take-suc xs k none more, keep_append (λ x. not (eqb x.voter voter)) (λ x. x) (take k xs) (vote ∷ []), e) (ends b)
     where
       ends : (b : Bool)
-          → without voter (take k xs) ++ (if not b then vote ∷ [] else [])
-          ≡ (if b then without voter (take k xs) else without voter (take k xs) ++ (vote ∷ []))
+          → without voter (take k xs) ++ (if not b then vote ∷ [] otherwise [])
+          ≡ (if b then without voter (take k xs) otherwise without voter (take k xs) ++ (vote ∷ []))
       ends true = append-nil _
       ends false = refl
 
   pub dropped-more : Dropped voter n xs (row_kept ballots kept k voter) (number_kept ballots kept k voter) (k + 1)
-  unfolding row_kept number_kept if◌then◌else◌ before rest ballot_rows
+  unfolding row_kept number_kept if◌then◌otherwise◌ before rest ballot_rows
   dropped-more =
       let word = row_word_lem before rest kept k before-length le vote.ballot vote.voter vote.weight in
       rw (is-present, word 0, word 1, word 2)
@@ -170,17 +170,17 @@ holds-put ballots n xs v t fits =
 
 module _ (l : List ℕ) (kept k voter : ℕ) where
   pub keeps-not : row_word l k 1 ≡ voter → (cleared l k ≡ row_kept l kept k voter) × (kept ≡ number_kept l kept k voter)
-  unfolding row_kept number_kept if◌then◌else◌
+  unfolding row_kept number_kept if◌then◌otherwise◌
   keeps-not e = rw (eq-eqb (row_word l k 1) voter e) (refl, refl)
 
   pub keeps : (row_word l k 1 ≡ voter → ⊥)
       → (sets (cleared l k) (ballot_row * kept) (get_or l (ballot_row * k) 0 ∷ row_word l k 1 ∷ row_word l k 2 ∷ []) ≡ row_kept l kept k voter)
       × (kept + 1 ≡ number_kept l kept k voter)
-  unfolding row_kept number_kept if◌then◌else◌
+  unfolding row_kept number_kept if◌then◌otherwise◌
   keeps e = rw (ne_eqb (row_word l k 1) voter e, add-zero) (refl, refl)
 
   pub number-few : kept ≤ k → number_kept l kept k voter ≤ k + 1
-  unfolding number_kept if◌then◌else◌
+  unfolding number_kept if◌then◌otherwise◌
   number-few le = by-test (eqb (row_word l k 1) voter) (λ q. rw q (omega arith)) (λ q. rw q (omega arith))
 
 -- ---- the weights

@@ -2,7 +2,7 @@
 -- Paper: "Refusals and their order" (ballot rows). Assumes nothing.
 use Rattle.std.specs.Prelude.{◌≡◌, List, [], ◌∷◌, ℕ, ◌+◌, ◌*◌, length, get_or, eqb}
 use Rattle.std.proofs.lemmas.List.Edits.{sets}
-use Rattle.model.specs.Lists.{if◌then◌else◌}
+use Rattle.model.specs.Lists.{if◌then◌otherwise◌}
 use Rattle.model.specs.Counted.{Vote}
 use Rattle.model.specs.Audit.{ballot_row}
 use Rattle.model.specs.Report.{ballot_rows, filled}
@@ -21,12 +21,12 @@ cleared ballots k = sets ballots (ballot_row * k) (0 ∷ 0 ∷ 0 ∷ [])
 
 -- row k is cleared, and unless it is the voter's put behind the first `kept` rows
 unfoldable pub row_kept : List ℕ → ℕ → ℕ → ℕ → List ℕ
-unfolding if◌then◌else◌
+unfolding if◌then◌otherwise◌
 row_kept ballots kept k voter =
     if eqb (row_word ballots k 1) voter then cleared ballots k
-    else sets (cleared ballots k) (ballot_row * kept) (row_word ballots k 0 ∷ row_word ballots k 1 ∷ row_word ballots k 2 ∷ [])
+    otherwise sets (cleared ballots k) (ballot_row * kept) (row_word ballots k 0 ∷ row_word ballots k 1 ∷ row_word ballots k 2 ∷ [])
 
 -- how many rows are kept then
 unfoldable pub number_kept : List ℕ → ℕ → ℕ → ℕ → ℕ
-unfolding if◌then◌else◌
-number_kept ballots kept k voter = if eqb (row_word ballots k 1) voter then kept else kept + 1
+unfolding if◌then◌otherwise◌
+number_kept ballots kept k voter = if eqb (row_word ballots k 1) voter then kept otherwise kept + 1

@@ -7,7 +7,7 @@ use mathlib.Core.List.{List, ◌++◌}
 use lib.ListN.{length, take, replicate}
 use lib.Seq.{take_at}
 use borrow.Author.Tests.{eq-eqb, ne_eqb}
-use Rattle.model.specs.Lists.{if◌then◌else◌}
+use Rattle.model.specs.Lists.{if◌then◌otherwise◌}
 use Rattle.model.specs.Format.{Format}
 use Rattle.model.specs.Counted.{counted}
 use Rattle.model.specs.Audit.{Outcome, unread, refused, accepted, ballot_row}
@@ -23,12 +23,12 @@ use Rattle.text.proofs.Placed.{put_then}
 
 module _ (number items mains ballots weight : ℕ) (table : List ℕ) where
   text_from-refused : (number ≡ 0 → ⊥) → text_from number items mains ballots weight table ≡ refused_line number items
-  unfolding text_from if◌then◌else◌
+  unfolding text_from if◌then◌otherwise◌
   text_from-refused h = rw (ne_eqb number 0 h)
 
   text_from-accepted : number ≡ 0
       → text_from number items mains ballots weight table ≡ accepted_line items mains ballots weight ++ row_lines (take (ballot_row * ballots) table)
-  unfolding text_from accepted_text if◌then◌else◌
+  unfolding text_from accepted_text if◌then◌otherwise◌
   text_from-accepted e = rw (eq-eqb number 0 e)
 
   pub put-refusal : {l m : List ℕ} {k : ℕ} → (number ≡ 0 → ⊥) → Put l 0 (refused_line number items) m k

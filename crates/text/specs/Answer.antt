@@ -1,6 +1,6 @@
 -- The whole text of an answer, from the numbers of a report and the ballot table. Paper: "The auditing program". Assumes nothing.
 use Rattle.std.specs.Prelude.{ℕ, ◌*◌, List, ◌++◌, take, eqb}
-use Rattle.model.specs.Lists.{if◌then◌else◌}
+use Rattle.model.specs.Lists.{if◌then◌otherwise◌}
 use Rattle.model.specs.Refusal.{no_fault}
 use Rattle.model.specs.Audit.{ballot_row}
 use Rattle.model.specs.Report.{Report}
@@ -12,9 +12,9 @@ accepted_text items mains ballots weight table = accepted_line items mains ballo
 
 -- number 0 is acceptance
 unfoldable pub text_from : ℕ → ℕ → ℕ → ℕ → ℕ → List ℕ → List ℕ
-unfolding if◌then◌else◌
+unfolding if◌then◌otherwise◌
 text_from number items mains ballots weight table =
-    if eqb number no_fault then accepted_text items mains ballots weight table else refused_line number items
+    if eqb number no_fault then accepted_text items mains ballots weight table otherwise refused_line number items
 
 -- of a report
 abbrev pub report_text : Report → List ℕ → List ℕ

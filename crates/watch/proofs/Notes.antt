@@ -10,7 +10,7 @@ use mathlib.Core.Option.{Option, none, some, some-injective}
 use mathlib.Core.List.{List, [], ◌∷◌, ◌++◌}
 use lib.ListN.{length, get_or}
 use lib.Dec.{T, eqb, ltb, eqb→eq, nltb→le}
-use Rattle.model.specs.Lists.{if◌then◌else◌, part, any, count}
+use Rattle.model.specs.Lists.{if◌then◌otherwise◌, part, any, count}
 use Rattle.model.specs.Words.{pair, same_words}
 use Rattle.model.specs.Refusal.{bad_notes}
 use Rattle.model.specs.Format.{Format, Hashes, time_size}
@@ -190,7 +190,7 @@ module _ (f : Format) (ns : List ℕ) (h : History) where
 
   -- by the three tests
   abbrev by_tests : (missing earlier early : Bool) → Option Disagreement
-  by_tests missing earlier early = if missing then some no_main_item else if earlier then some out_of_order else if early then some too_early else none
+  by_tests missing earlier early = if missing then some no_main_item otherwise if earlier then some out_of_order otherwise if early then some too_early otherwise none
 
   -- so the same is wrong with each note
   disagreement-alone : (k : ℕ) → disagreement f ns h k ≡ disagreement f ns alone k

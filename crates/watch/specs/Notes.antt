@@ -2,7 +2,7 @@
 -- Paper: request (vi); for the widths request (ix). Assumes nothing.
 use Rattle.std.specs.Prelude.{ℕ, zero, suc, ◌+◌, ◌*◌, ◌/◌, ◌≤◌, ◌<◌, ◌≡◌, ◌≢◌, Bool, not, ◌&&◌, List, [], ◌∷◌, length, eqb, ltb}
 use Rattle.std.proofs.Math.Option.{Option, none, some}
-use Rattle.model.specs.Lists.{if◌then◌else◌, part}
+use Rattle.model.specs.Lists.{if◌then◌otherwise◌, part}
 use Rattle.model.specs.Words.{pair, same_words}
 use Rattle.model.specs.Refusal.{bad_notes}
 use Rattle.model.specs.Format.{Format, time_size}
@@ -56,14 +56,14 @@ pub data Disagreement : Type 0 where
 
 -- of note k
 unfoldable pub disagreement : Format → List ℕ → History → ℕ → Option Disagreement
-unfolding if◌then◌else◌
+unfolding if◌then◌otherwise◌
 disagreement f ns h k =
     let note = note_at f ns k in
     let item = noted_item note h in
     if eqb item 0 then some no_main_item
-    else if ltb item (item_before f ns h k) then some out_of_order
-    else if ltb note.time (time (item_no h item)) then some too_early
-    else none
+    otherwise if ltb item (item_before f ns h k) then some out_of_order
+    otherwise if ltb note.time (time (item_no h item)) then some too_early
+    otherwise none
 
 -- ---- all notes
 

@@ -4,7 +4,7 @@ use native.Mathlib.Omega.{arith}
 use Prim.Native.Nat.{◌≤◌}
 use mathlib.Core.Path.{sym, ◌∙◌}
 use mathlib.Core.Path.{◌≡◌}
-use Rattle.model.specs.Lists.{if◌then◌else◌}
+use Rattle.model.specs.Lists.{if◌then◌otherwise◌}
 use Rattle.model.specs.History.{entry}
 use Rattle.format.proofs.Traits.{sizes}
 use Rattle.index.specs.Kept.{before}
@@ -52,7 +52,7 @@ loop-number-preserved c =
     let one : 1 ≤ k = omega arith in
     let at = walk-goes (by_address-small _) c.requires.kept.0.few c.requires.kept.1 k one i.0 i.1 c.behind-number.ensures in
     let told = c.is_at.ensures in
-    let found : c.if-is_at.found ≡ (if p (entry (before a.board.now a.count) k) then k else c.loop-number.found) =
+    let found : c.if-is_at.found ≡ (if p (entry (before a.board.now a.count) k) then k otherwise c.loop-number.found) =
     elim c.if-is_at.branch [
       | then-is_at w ↦ found-new _ _ p k one i.0 told c.loop-number.found w.if-is_at.true w.found-is
       | else-is_at w ↦ found-old _ _ p k one i.0 told c.loop-number.found w.if-is_at.false w.found-is

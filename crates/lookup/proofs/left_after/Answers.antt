@@ -1,12 +1,12 @@
 -- `left_after` meets its contract: the two returns are the two cases of the kind. Assumes nothing.
 use borrow.Author.Tests.{eq-eqb, ne_eqb}
-use Rattle.model.specs.Lists.{if◌then◌else◌}
+use Rattle.model.specs.Lists.{if◌then◌otherwise◌}
 use Rattle.lookup.proofs.left_after.Goals as goal
 
 pub returns-then-e-eq-MAIN : goal.returns-then-e-eq-MAIN
-unfolding if◌then◌else◌
+unfolding if◌then◌otherwise◌
 returns-then-e-eq-MAIN c = search eq-eqb
 
 pub returns : goal.returns
-unfolding if◌then◌else◌
+unfolding if◌then◌otherwise◌
 returns c = search ne_eqb

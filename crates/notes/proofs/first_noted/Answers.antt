@@ -4,7 +4,7 @@ use native.Mathlib.Omega.{arith}
 use Prim.Native.Nat.{◌≤◌}
 use mathlib.Core.Path.{◌≡◌, sym, ◌∙◌}
 use mathlib.Core.Bool.{true}
-use Rattle.model.specs.Lists.{if◌then◌else◌}
+use Rattle.model.specs.Lists.{if◌then◌otherwise◌}
 use Rattle.model.specs.History.{entry}
 use Rattle.format.proofs.Traits.{sizes}
 use Rattle.index.specs.Kept.{before}
@@ -44,7 +44,7 @@ loop-number-preserved c =
     let some : 1 ≤ c.loop-number.number = search rules in
     let at = walk-goes (by_address-small _) c.requires.kept.0.few c.requires.kept.1 c.loop-number.number some c.loop-number.invariant.0 c.loop-number.invariant.1 c.behind-number.ensures in
     let told = c.is_noted.ensures in
-    let found : c.if-is_noted.found ≡ (if p (entry (before a.board.now a.items) k) then k else c.loop-number.found) =
+    let found : c.if-is_noted.found ≡ (if p (entry (before a.board.now a.items) k) then k otherwise c.loop-number.found) =
     elim c.if-is_noted.branch [
       | then-is_noted w ↦ found-new _ _ p k some i.0 told c.loop-number.found w.if-is_noted.true w.found-is
       | else-is_noted w ↦ found-old _ _ p k some i.0 told c.loop-number.found w.if-is_noted.false w.found-is

@@ -1,13 +1,13 @@
 -- `earliest` meets its contract. Assumes nothing.
 use borrow.Author.Tests.{eq-eqb, ne_eqb}
-use Rattle.model.specs.Lists.{if◌then◌else◌}
+use Rattle.model.specs.Lists.{if◌then◌otherwise◌}
 use Rattle.state.specs.After.{later, earliest}
 use Rattle.state.proofs.earliest.Goals as goal
 
 pub returns-then-old-eq0 : goal.returns-then-old-eq0
-unfolding later earliest if◌then◌else◌
+unfolding later earliest if◌then◌otherwise◌
 returns-then-old-eq0 c = rw (eq-eqb _ _ c.if-old-eq0.true) c.later.ensures
 
 pub returns : goal.returns
-unfolding earliest if◌then◌else◌
+unfolding earliest if◌then◌otherwise◌
 returns c = rw (ne_eqb _ _ c.if-old-eq0.false)

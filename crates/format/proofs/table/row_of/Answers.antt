@@ -1,6 +1,6 @@
 -- `table::row_of` meets its contract. Assumes nothing.
 use borrow.Author.Tests.{eq-eqb, ne_eqb, le-leb, lt-leb}
-use Rattle.model.specs.Lists.{if◌then◌else◌}
+use Rattle.model.specs.Lists.{if◌then◌otherwise◌}
 use Rattle.model.specs.Types.{row_in, table}
 use Rattle.format.proofs.table.row_of.Goals as goal
 
@@ -13,5 +13,5 @@ pub returns-then-kind-eq-HIDDEN : goal.returns-then-kind-eq-HIDDEN
 returns-then-kind-eq-HIDDEN c = rw c.if-kind-eq-HIDDEN.true (c.hidden_row.ensures _)
 
 pub returns : goal.returns
-unfolding row_in table if◌then◌else◌
+unfolding row_in table if◌then◌otherwise◌
 returns c = search tests
