@@ -336,7 +336,7 @@ enum {
    A text buffer that is shorter than the text is refused by 2, with 0 items, and no byte of it is written. This comes after the audit of a
    board that is accepted, so the tables are then filled; a board that is refused is refused as by tirfolma_audit, whatever the buffer's length.
    Two accepted boards have the same text exactly if they have the same main items, signatures left aside, and then they have one format:
-   `same-export` and `same-format` in crates/exporting/proofs/Claims.antt.
+   `same-export` and `same_format` in crates/exporting/proofs/Claims.antt.
 
    True: the first 22 words of the answer are as those of tirfolma_audit, but for that 2, the next is as above, and the words behind them as
    they were. The tables are as tirfolma_audit leaves them, under that 2 too. The text buffer:

@@ -242,7 +242,7 @@ fn mistakes() -> Vec<(&'static str, &'static str, &'static str)> {
         ("no value of an enumerator", "TIRFOLMA_ROLL_WEIGHT = 1", "TIRFOLMA_ROLL_WEIGHT"),
         ("a negative value", "TIRFOLMA_KIND = 0", "TIRFOLMA_KIND = -1"),
         ("no value of a constant", "#define TIRFOLMA_LIST_WORDS 2048", "#define TIRFOLMA_LIST_WORDS"),
-        ("a name lost", "#define TIRFOLMA_BOARD_WORDS 262144\n", ""),
+        ("a name lost", "#define TIRFOLMA_LIST_WORDS 2048\n", ""),
         ("a constant behind a tab", "#define TIRFOLMA_LIST_WORDS 2048", "#define\tTIRFOLMA_LIST_WORDS 2048"),
         ("a name changed", "TIRFOLMA_ROW_CLOSER = 4", "TIRFOLMA_ROW_CLOSED = 4"),
         ("a function changed", "bool tirfolma_ancestry(", "bool tirfolma_lineage("),
