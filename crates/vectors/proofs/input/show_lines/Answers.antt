@@ -10,7 +10,7 @@ returns-then-bits-eq-NONE g c =
     let text = c.args.text.now in
     ap (◌&& ltb (length text) 0x10000)
     (read_none
-    text l.bits l.from (l.from + c.find.result) (omega arith) (ap (λ (n : ℕ). l.from + n) c.find.ensures.first) c.in_ok-bits.ensures
+    text l.bits l.from (l.from + c.find.result) (omega arith) (ap (λ (n : ℕ). l.from + n) c.find.ensures.first) c.next-bits.ensures
     l.invariant.1 c.if-bits-eq-NONE.true)
 
 pub loop-from-preserved : goal.loop-from-preserved
@@ -19,7 +19,7 @@ loop-from-preserved g c =
     let text = c.args.text.now in (
       omega arith,
       read_next
-          text l.bits l.from (l.from + c.find.result) (omega arith) (ap (λ (n : ℕ). l.from + n) c.find.ensures.first) c.in_ok-bits.ensures
+          text l.bits l.from (l.from + c.find.result) (omega arith) (ap (λ (n : ℕ). l.from + n) c.find.ensures.first) c.next-bits.ensures
           l.invariant.1 c.if-bits-eq-NONE.false,
     )
 
