@@ -7,22 +7,21 @@ use mathlib.Core.Path.{◌≡◌, refl, sym, subst, ◌∙◌}
 use mathlib.Core.Option.{Option, none, some, some-injective}
 use mathlib.Core.List.{List, [], ◌++◌}
 use lib.ListN.{length, take}
-use lib.Seq.{length-take-le}
 use Rattle.std.proofs.Math.Logic.{∥∥₁_elim, ∥∥₁_map}
 use Rattle.std.proofs.Props.{props}
 use Rattle.std.specs.Bool.{⊤}
 use Rattle.model.specs.Format.{Format}
 use Rattle.model.specs.Item.{Item}
 use Rattle.model.specs.Types.{Row, row_of, Listed}
-use Rattle.model.specs.History.{History, place_of, history}
+use Rattle.model.specs.History.{History, Entry, place_of, history}
 use Rattle.model.specs.Keys.{key_of, good_verdict}
 use Rattle.model.specs.Roll.{Eligibility}
-use Rattle.model.specs.Sound.{Meets, Passed, next}
-use Rattle.model.proofs.Parts.{take_part}
-use Rattle.model.proofs.Parsing.{words-at}
+use Rattle.model.specs.Sound.{Meets, Passed}
 use Rattle.format.specs.Format.{format_of}
 use Rattle.index.specs.Kept.{before, item_after, anyone, Kept}
-use Rattle.index.proofs.Items.{place-le, entry-met}
+use Rattle.index.specs.declared.Known.{Known}
+use Rattle.index.specs.Known.{IsKnown, Passing}
+use Rattle.index.proofs.Items.{place-le, passed-more, entry-met}
 
 -- ---- the row of a listed type, and an item that meets the rules
 
@@ -77,6 +76,14 @@ meets-had {f} {on} {h} {i} t =
       },
     )
 
+-- what the code knows of an entry
+pub is-known-had : {board : List ℕ} {e : Entry} {r : Known} → ∥ IsKnown board e r ∥₁ → IsKnown board e r
+is-known-had t = record {
+  same = ∥∥₁_elim t (hlevel props) (λ k. k.same);
+  item = ∥∥₁_elim t (hlevel props) (λ k. k.item);
+  within = ∥∥₁_elim t (hlevel props) (λ k. k.within);
+}
+
 -- ---- the first items of a board
 
 -- the first k pass, under some verdicts
@@ -94,13 +101,9 @@ module _ {board index : List ℕ} {n : ℕ} (t : ∥ Kept board index n ∥₁) 
   unfolding place_of history
   passed zero l = ([], Passed.none)
   passed (suc k) l =
-      let at = place_of (format_of board) board k in
-      let inside : place_of (format_of board) board (suc k) ≤ length board = omega (arith, place-le board (suc k) n l, within) in
-      let place : length (take at board) ≡ at = length-take-le at board (omega (arith, place-le board k (suc k) (omega arith))) in
       let (vs, p) = passed k (omega arith) in
       let (v, m) = met k l in
-      let more = rw place at (next _ _ _ _ _ p m) in
-      (vs ++ v, rw (take_part at _ board, ← words-at (format_of board) board at inside) more)
+      (vs ++ v, passed-more board k (omega (arith, place-le board (suc k) n l, within)) p m)
 
   pub kept-had : Kept board index n
   kept-had = record {
@@ -112,3 +115,16 @@ module _ {board index : List ℕ} {n : ℕ} (t : ∥ Kept board index n ∥₁) 
     words = ∥∥₁_elim t (hlevel props) (λ k. k.words);
     room = ∥∥₁_elim t (hlevel props) (λ k. k.room);
   }
+
+-- and an item after them that passes, too
+pub passing-had : {board index : List ℕ} {n : ℕ} {c : Known} → ∥ Passing board index n c ∥₁ → Passing board index n c
+passing-had t =
+    let m = meets-had (∥∥₁_map t (λ p. (p.verdict, p.meets))) in
+    record {
+      kept = kept-had (∥∥₁_map t (λ p. p.kept));
+      more = ∥∥₁_elim t (hlevel props) (λ p. p.more);
+      known = ∥∥₁_elim t (hlevel props) (λ p. p.known);
+      verdict = m.0;
+      meets = m.1;
+      within = ∥∥₁_elim t (hlevel props) (λ p. p.within);
+    }

@@ -7,8 +7,9 @@ use native.Mathlib.Omega.{arith}
 use mathlib.Core.Path.{◌≡◌}
 use mathlib.Core.Logic.{◌≢◌, by_cases}
 use mathlib.Core.Bool.{false}
-use mathlib.Core.List.{List}
-use lib.ListN.{length}
+use mathlib.Core.List.{List, ◌++◌}
+use lib.ListN.{length, take}
+use lib.Seq.{length-take-le}
 use lib.Dec.{T, eqb}
 use borrow.Author.Tests.{ne_eqb}
 use Rattle.model.specs.Lists.{◌⇒◌}
@@ -17,11 +18,12 @@ use Rattle.model.specs.Codes.{genesis_type, session_type}
 use Rattle.model.specs.Format.{Format}
 use Rattle.model.specs.Item.{Item, item_at, code}
 use Rattle.model.specs.Types.{Listed, fits}
-use Rattle.model.specs.History.{History, entry, typed, place_of, entry_of}
+use Rattle.model.specs.History.{History, entry, typed, place_of, history, entry_of}
 use Rattle.model.specs.Roll.{Eligibility, on_roll_ok}
 use Rattle.model.specs.Sound.{Shaped, Meets, Passed, none, next}
 use Rattle.model.proofs.Tests.{by-test}
-use Rattle.model.proofs.Parsing.{shaped-at}
+use Rattle.model.proofs.Parts.{take_part}
+use Rattle.model.proofs.Parsing.{shaped-at, words-at}
 use Rattle.model.proofs.Entries.{Fine, orderly, fine-at, parent-genesis, parent-bound, session-bound}
 use Rattle.model.proofs.Beginnings.{made_at}
 use Rattle.model.proofs.Unchecked.{length-history, history-take, entry-history}
@@ -81,6 +83,18 @@ meets-anyone {i} m = record {
 pub passed-anyone : {f : Format} {on : Eligibility} {ws vs : List ℕ} {h : History} → Passed f on ws vs h → Passed f anyone ws vs h
 passed-anyone none = none
 passed-anyone (next ws vs h v i p m) = next ws vs h v i (passed-anyone p) (meets-anyone m)
+
+-- one item more passes, where it meets the rules and ends within the board
+pub passed-more : (board : List ℕ) (k : ℕ) {vs v : List ℕ} → place_of (format_of board) board (suc k) ≤ length board
+    → Passed (format_of board) anyone (take (place_of (format_of board) board k) board) vs (before board k)
+    → Meets (format_of board) anyone (before board k) v (item_after board k)
+    → Passed (format_of board) anyone (take (place_of (format_of board) board (suc k)) board) (vs ++ v) (before board (suc k))
+unfolding place_of history
+passed-more board k l p m =
+    let at = place_of (format_of board) board k in
+    let place : length (take at board) ≡ at = length-take-le at board (omega (arith, l)) in
+    let more = rw place at (next _ _ _ _ _ p m) in
+    rw (take_part at _ board, ← words-at (format_of board) board at l) more
 
 -- the item after the first k meets the rules, under some verdict, and the first k pass
 pub record Met (board : List ℕ) (k : ℕ) : Type 0 where

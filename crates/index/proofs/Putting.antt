@@ -8,7 +8,7 @@ use mathlib.Core.Bool.{true, false}
 use mathlib.Core.List.{List, [], ◌∷◌, ◌++◌}
 use lib.ListN.{length, set, take, length-set, length-take, length-append}
 use lib.Dec.{T, eqb}
-use lib.Seq.{sets, length-sets, length-take-le, set-append_left, take_all}
+use lib.Seq.{sets, length-sets, set-append_left, take_all}
 use borrow.Author.Tests.{ne_eqb}
 use Rattle.model.specs.Lists.{if◌then◌otherwise◌, count}
 use Rattle.model.specs.Item as model
@@ -16,11 +16,9 @@ use Rattle.model.specs.Item.{code}
 use Rattle.model.specs.History.{History, Entry, main, main_number, parent_number, session_number, place_of, history, entry_of, cast_or_spoil}
 use Rattle.model.specs.Audit.{word_limit, item_limit, index_row}
 use Rattle.model.specs.Report.{no_number, number_word, place_column, parent_column, session_column, mains_column, closer_column, row_place, row_words, index_rows, filled}
-use Rattle.model.specs.Sound.{Passed, next}
+use Rattle.model.specs.Sound.{Passed}
 use Rattle.model.proofs.Tests.{by-test, passes}
 use Rattle.model.proofs.Lists.{count-few}
-use Rattle.model.proofs.Parts.{take_part}
-use Rattle.model.proofs.Parsing.{words-at}
 use Rattle.model.proofs.Entries.{orderly, parent-some, parent-genesis, parent-bound, session-bound}
 use Rattle.model.proofs.Unchecked.{length-history}
 use Rattle.model.proofs.Tables.{length-index_rows, number-none, filled-append, filled-set}
@@ -33,6 +31,7 @@ use Rattle.index.specs.declared.Known.{Known}
 use Rattle.index.specs.Rows.{closed_by}
 use Rattle.index.specs.Kept.{before, item_after, anyone, Kept}
 use Rattle.index.specs.Known.{Passing}
+use Rattle.index.proofs.Items.{passed-more}
 
 -- the row of an item with so many main items before it, that nothing closed yet
 abbrev pub row_with : ℕ → Known → List ℕ
@@ -84,12 +83,7 @@ module _ {board index : List ℕ} {n : ℕ} {c : Known} (p : Passing board index
       }
 
   passed-next : Passed (format_of board) anyone (take (place_of (format_of board) board (suc n)) board) (p.kept.verdicts ++ p.verdict) (before board (suc n))
-  unfolding place_of history
-  passed-next =
-      let at = place_of (format_of board) board n in
-      let place : length (take at board) ≡ at = length-take-le at board p.kept.within in
-      let passed = rw place at (next _ _ _ _ _ p.kept.passed p.meets) in
-      rw (take_part at _ board, ← words-at (format_of board) board at p.within) passed
+  passed-next = passed-more board n p.within p.kept.passed p.meets
 
   abbrev new : Entry
   new = entry_of h (place_of (format_of board) board n) i
