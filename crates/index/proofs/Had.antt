@@ -128,3 +128,6 @@ passing-had t =
       meets = m.1;
       within = ∥∥₁_elim t (hlevel props) (λ p. p.within);
     }
+
+-- for the attribute of a function that needs such a fact
+pub ruleset had = (is-known-had, kept-had, passing-had)

@@ -12,6 +12,7 @@ use Rattle.index.proofs.Had.{listed-had, same_row, kept-had}
 use Rattle.state.specs.declared.State.{State}
 use Rattle.state.specs.Stands.{Stands, AtItem}
 
+-- the state after the first items
 pub stands-had : {board : List ℕ} {s : State} → ∥ Stands board s ∥₁ → Stands board s
 stands-had t = record {
   place = ∥∥₁_elim t (hlevel props) (λ a. a.place);
@@ -26,9 +27,17 @@ stands-had t = record {
   ballots = ∥∥₁_elim t (hlevel props) (λ a. a.ballots);
 }
 
+-- and what it stands on
 pub both-had : {board index : List ℕ} {s : State} → ∥ Kept board index s.items × Stands board s ∥₁ → Kept board index s.items × Stands board s
 both-had t = (kept-had (∥∥₁_map t (λ b. b.0)), stands-had (∥∥₁_map t (λ b. b.1)))
 
+pub kept-held : {board index : List ℕ} {s : State} → ∥ Kept board index s.items × Stands board s ∥₁ → Kept board index s.items
+kept-held t = (both-had t).0
+
+pub stands-held : {board index : List ℕ} {s : State} → ∥ Kept board index s.items × Stands board s ∥₁ → Stands board s
+stands-held t = (both-had t).1
+
+-- a check of the item after them
 pub at-had : {board index : List ℕ} {s : State} {c : Known} → ∥ AtItem board index s c ∥₁ → AtItem board index s c
 at-had {board} {index} {s} {c} t =
     let listed : Listed (format_of board) (get_or board s.place 0) = listed-had (∥∥₁_map t (λ a. a.listed)) in
@@ -41,3 +50,6 @@ at-had {board} {index} {s} {c} t =
       counted = ∥∥₁_elim t (hlevel props) (λ a. rw (same_row a.listed listed) at a.counted);
       within = ∥∥₁_elim t (hlevel props) (λ a. a.within);
     }
+
+-- for the attribute of a function that needs such a fact
+pub ruleset had = (kept-had, stands-had, kept-held, stands-held, at-had)
