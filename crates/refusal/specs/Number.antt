@@ -1,10 +1,8 @@
 -- The paper's number of each refusal, as the model names it. Paper: "Refusals and their order". Assumes nothing.
-use Rattle.std.specs.Prelude.{ℕ}
+use Rattle.std.specs.Prelude.{ℕ, Result, Ok, Err}
 use Rattle.model.specs.Refusal as model
 use Rattle.refusal.specs.declared.Refusal.{Refusal}
 use Rattle.refusal.specs.declared.Refusal.TheVariants.{TooLarge, ShortTable, EmptyBoard, Truncated, UnknownType, WrongCount, WrongAddress, WrongPrevious, WrongParent, EarlierTime, OutOfPhase, Duplicate, BadContent, NoVerdict, WrongKey, BadSignature, BadClosing, NoSuchItem, BadRoll, NotOnRoll, BadReceipts, BadNotes}
-use Rattle.refusal.specs.declared.Finding.{Finding}
-use Rattle.refusal.specs.declared.Finding.TheVariants.{Passes, Fails}
 
 abbrev pub number_of : Refusal → ℕ
 number_of TooLarge = model.too_large
@@ -30,7 +28,7 @@ number_of NotOnRoll = model.not_on_roll
 number_of BadReceipts = model.bad_receipts
 number_of BadNotes = model.bad_notes
 
--- what the checks of an item find: nothing, or the first refusal that applies
-abbrev pub found_of : Finding → ℕ
-found_of Passes = model.no_fault
-found_of (Fails r) = number_of r
+-- what is found where there may be a refusal: nothing, or the refusal
+abbrev pub found_of : {X : Type 0} → Result X Refusal → ℕ
+found_of (Ok _) = model.no_fault
+found_of (Err r) = number_of r

@@ -4,88 +4,67 @@
 ghost use Rattle.std.specs.Prelude.{◌≡◌};
 ghost use Rattle.refusal.specs.Number.{number_of};
 
-#[derive(Clone, Copy)]
+#[derive(Clone, Copy, PartialEq, Eq)]
 pub enum Refusal {
     // 1 oversize
-    TooLarge,
+    TooLarge = 1,
     // 2 short sheet
-    ShortTable,
+    ShortTable = 2,
     // 3 blank
-    EmptyBoard,
+    EmptyBoard = 3,
     // 4 torn
-    Truncated,
+    Truncated = 4,
     // 5 stranger
-    UnknownType,
+    UnknownType = 5,
     // 6 misfit
-    WrongCount,
+    WrongCount = 6,
     // 7 false address
-    WrongAddress,
+    WrongAddress = 7,
     // 8 broken history
-    WrongPrevious,
+    WrongPrevious = 8,
     // 9 orphan
-    WrongParent,
+    WrongParent = 9,
     // 10 backward clock
-    EarlierTime,
+    EarlierTime = 10,
     // 11 out of phase
-    OutOfPhase,
+    OutOfPhase = 11,
     // 12 second
-    Duplicate,
+    Duplicate = 12,
     // 13 bad content
-    BadContent,
+    BadContent = 13,
     // 14 no verdict
-    NoVerdict,
+    NoVerdict = 14,
     // 15 wrong key
-    WrongKey,
+    WrongKey = 15,
     // 16 bad signature
-    BadSignature,
+    BadSignature = 16,
     // 17 is unused: list full, which can't come up
     // 18 bad close
-    BadClosing,
+    BadClosing = 18,
     // 19 no such point
-    NoSuchItem,
+    NoSuchItem = 19,
     // 20 bad roll
-    BadRoll,
+    BadRoll = 20,
     // 21 not on the roll
-    NotOnRoll,
+    NotOnRoll = 21,
     // 22 bad tray
-    BadReceipts,
+    BadReceipts = 22,
     // 23 bad notes
-    BadNotes,
+    BadNotes = 23,
 }
 
-// What the checks of an item find.
+// A refusal, and the items passed so far.
 #[derive(Clone, Copy)]
-pub enum Finding {
-    Passes,
-    Fails(Refusal),
+pub struct Refused {
+    pub refusal: Refusal,
+    pub items: u32,
 }
 
 // The paper's number of a refusal.
-pub fn number_of(refusal: Refusal) -> u32
-    ensures { result ≡ number_of refusal }
-{
-    match refusal {
-        Refusal::TooLarge => 1,
-        Refusal::ShortTable => 2,
-        Refusal::EmptyBoard => 3,
-        Refusal::Truncated => 4,
-        Refusal::UnknownType => 5,
-        Refusal::WrongCount => 6,
-        Refusal::WrongAddress => 7,
-        Refusal::WrongPrevious => 8,
-        Refusal::WrongParent => 9,
-        Refusal::EarlierTime => 10,
-        Refusal::OutOfPhase => 11,
-        Refusal::Duplicate => 12,
-        Refusal::BadContent => 13,
-        Refusal::NoVerdict => 14,
-        Refusal::WrongKey => 15,
-        Refusal::BadSignature => 16,
-        Refusal::BadClosing => 18,
-        Refusal::NoSuchItem => 19,
-        Refusal::BadRoll => 20,
-        Refusal::NotOnRoll => 21,
-        Refusal::BadReceipts => 22,
-        Refusal::BadNotes => 23,
+impl From<Refusal> for u32 {
+    ghost from_gives = { λ refusal n. n ≡ number_of refusal };
+
+    fn from(refusal: Refusal) -> u32 {
+        refusal as u32
     }
 }
