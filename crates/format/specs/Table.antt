@@ -1,5 +1,6 @@
 -- What the code's row of the table of item types stands for. Paper: "Item types". Assumes nothing.
-use Rattle.std.specs.Prelude.{ℕ}
+use Rattle.std.specs.Prelude.{ℕ, Some, None}
+use Rattle.std.specs.Prelude as code
 use Rattle.std.proofs.Math.Option.{Option, none, some}
 use Rattle.model.specs.Types as types
 use Rattle.format.specs.declared.table.Writer.{Writer}
@@ -8,8 +9,7 @@ use Rattle.format.specs.declared.table.ParentRule.{ParentRule}
 use Rattle.format.specs.declared.table.ParentRule.TheVariants.{Zeros, LatestConfig, OfType}
 use Rattle.format.specs.declared.table.Counts.{Counts}
 use Rattle.format.specs.declared.table.Counts.TheVariants.{FromTo, SetAndEach}
-use Rattle.format.specs.declared.table.Listing.{Listing}
-use Rattle.format.specs.declared.table.Listing.TheVariants.{Listed, Unlisted}
+use Rattle.format.specs.declared.table.Row.{Row}
 
 abbrev pub writer_of : Writer → types.Writer
 writer_of Administrator = types.administrator
@@ -28,6 +28,6 @@ counts_of (FromTo lo hi) = types.from◌to◌ lo hi
 counts_of (SetAndEach w s) = types.set_and_each w s
 
 -- the row of a type: its kind and code are those that it was asked for
-abbrev pub row_of : ℕ → ℕ → Listing → Option types.Row
-row_of kind code Unlisted = none
-row_of kind code (Listed r) = some (record { code = code; kind = kind; writer = writer_of r.writer; parent = parent_rule_of r.parent; counts = counts_of r.counts })
+abbrev pub row_of : ℕ → ℕ → code.Option Row → Option types.Row
+row_of kind code None = none
+row_of kind code (Some r) = some (record { code = code; kind = kind; writer = writer_of r.writer; parent = parent_rule_of r.parent; counts = counts_of r.counts })

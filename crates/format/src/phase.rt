@@ -5,50 +5,32 @@ ghost use Rattle.format.specs.Phase.{phase_of};
 use crate::head;
 use crate::head::Head;
 
-#[derive(Clone, Copy)]
-pub struct Phase {
-    pub number: u32,
+// The phases. Items of hidden tracks have one of their own.
+#[derive(Clone, Copy, PartialEq, Eq)]
+pub enum Phase {
+    Config,
+    Voting,
+    Extraction,
+    Track,
 }
 
 impl Phase {
-    pub const CONFIG: u32 = 0;
-
-    pub const VOTING: u32 = 1;
-
-    pub const EXTRACTION: u32 = 2;
-
-    // That of hidden tracks.
-    pub const TRACK: u32 = 3;
-
-    // A code that is in no phase.
-    pub const NONE: u32 = 4;
-
-    // The phase of a type.
-    pub fn of(code: u32) -> Self
+    // The phase of a type, if it is in one.
+    pub fn of(code: u32) -> Option<Self>
         ensures { result ≡ phase_of code }
     {
         if head::is_between(Head::GENESIS, Head::ROUND, code) {
-            return Phase {
-                number: Phase::CONFIG,
-            };
+            return Some(Phase::Config);
         }
         if head::is_between(Head::SESSION, Head::SPOIL, code) {
-            return Phase {
-                number: Phase::VOTING,
-            };
+            return Some(Phase::Voting);
         }
         if head::is_between(Head::INTENT, Head::CONFIRMATION, code) {
-            return Phase {
-                number: Phase::EXTRACTION,
-            };
+            return Some(Phase::Extraction);
         }
         if head::is_between(Head::TRACK, Head::SERVER_OPENING, code) {
-            return Phase {
-                number: Phase::TRACK,
-            };
+            return Some(Phase::Track);
         }
-        Phase {
-            number: Phase::NONE,
-        }
+        None
     }
 }

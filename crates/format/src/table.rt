@@ -42,12 +42,6 @@ pub struct Row {
     pub counts: Counts,
 }
 
-#[derive(Clone, Copy)]
-pub enum Listing {
-    Listed(Row),
-    Unlisted,
-}
-
 impl Counts {
     // Whether so many content words are in the table.
     pub fn fits(self, n: usize) -> bool
@@ -80,8 +74,8 @@ fn set_and_each(words: usize, size: usize, n: usize) -> bool
     rest % size == 0 && (k - 1) / Format::BITS < words
 }
 
-// The row of a type on a board, listed under its kind.
-pub fn row_of(board: &[u32], kind: u32, code: u32) -> Listing
+// The row of a type on a board, where it is listed under its kind.
+pub fn row_of(board: &[u32], kind: u32, code: u32) -> Option<Row>
     ensures { row_of kind code result ≡ row_in kind code (table (format_of board.now)) }
 {
     if kind == Head::MAIN {
@@ -90,121 +84,121 @@ pub fn row_of(board: &[u32], kind: u32, code: u32) -> Listing
     if kind == Head::HIDDEN {
         return hidden_row(code);
     }
-    Listing::Unlisted
+    None
 }
 
 // The rows of the main items.
-fn main_row(board: &[u32], code: u32) -> Listing
+fn main_row(board: &[u32], code: u32) -> Option<Row>
     ensures { row_of main_kind code result ≡ row_in main_kind code (table (format_of board.now)) }
 {
     let format = Format::of(board);
     let round = Size::ROUND + format.sets;
     let session = Size::SESSION + format.sets;
     match code {
-        Head::GENESIS => Listing::Listed(Row {
+        Head::GENESIS => Some(Row {
             writer: Writer::Administrator,
             parent: ParentRule::Zeros,
             counts: Counts::FromTo(Size::GENESIS, Size::GENESIS_TRAITS),
         }),
-        Head::TEXT => Listing::Listed(Row {
+        Head::TEXT => Some(Row {
             writer: Writer::Administrator,
             parent: ParentRule::LatestConfig,
             counts: Counts::FromTo(0, Size::TEXT),
         }),
-        Head::CONTEST => Listing::Listed(Row {
+        Head::CONTEST => Some(Row {
             writer: Writer::Administrator,
             parent: ParentRule::LatestConfig,
             counts: Counts::FromTo(1, Size::CONTEST),
         }),
-        Head::THRESHOLD => Listing::Listed(Row {
+        Head::THRESHOLD => Some(Row {
             writer: Writer::Administrator,
             parent: ParentRule::LatestConfig,
             counts: Counts::FromTo(Size::THRESHOLD, Size::THRESHOLD),
         }),
-        Head::AUTHORIZER => Listing::Listed(Row {
+        Head::AUTHORIZER => Some(Row {
             writer: Writer::Administrator,
             parent: ParentRule::LatestConfig,
             counts: Counts::FromTo(Size::AUTHORIZER, Size::AUTHORIZER),
         }),
-        Head::ROUND => Listing::Listed(Row {
+        Head::ROUND => Some(Row {
             writer: Writer::Administrator,
             parent: ParentRule::LatestConfig,
             counts: Counts::FromTo(round, round),
         }),
-        Head::SESSION => Listing::Listed(Row {
+        Head::SESSION => Some(Row {
             writer: Writer::Authorizer,
             parent: ParentRule::LatestConfig,
             counts: Counts::FromTo(session, session),
         }),
-        Head::VOTER_COMMITMENT => Listing::Listed(Row {
+        Head::VOTER_COMMITMENT => Some(Row {
             writer: Writer::Voter,
             parent: ParentRule::OfType(Head::SESSION),
             counts: Counts::FromTo(format.commitment, format.commitment),
         }),
-        Head::SERVER_COMMITMENT => Listing::Listed(Row {
+        Head::SERVER_COMMITMENT => Some(Row {
             writer: Writer::BallotBox,
             parent: ParentRule::OfType(Head::VOTER_COMMITMENT),
             counts: Counts::FromTo(format.commitment, format.commitment),
         }),
-        Head::BALLOT => Listing::Listed(Row {
+        Head::BALLOT => Some(Row {
             writer: Writer::Voter,
             parent: ParentRule::OfType(Head::SERVER_COMMITMENT),
             counts: Counts::SetAndEach(format.sets, format.cryptogram),
         }),
-        Head::CAST => Listing::Listed(Row {
+        Head::CAST => Some(Row {
             writer: Writer::Voter,
             parent: ParentRule::OfType(Head::BALLOT),
             counts: Counts::FromTo(0, 0),
         }),
-        Head::SPOIL => Listing::Listed(Row {
+        Head::SPOIL => Some(Row {
             writer: Writer::Voter,
             parent: ParentRule::OfType(Head::BALLOT),
             counts: Counts::FromTo(0, 0),
         }),
-        Head::INTENT => Listing::Listed(Row {
+        Head::INTENT => Some(Row {
             writer: Writer::Administrator,
             parent: ParentRule::LatestConfig,
             counts: Counts::FromTo(0, 0),
         }),
-        Head::EXTRACTION => Listing::Listed(Row {
+        Head::EXTRACTION => Some(Row {
             writer: Writer::BallotBox,
             parent: ParentRule::OfType(Head::INTENT),
             counts: Counts::FromTo(Size::FINGERPRINT, Size::FINGERPRINT),
         }),
-        Head::CONFIRMATION => Listing::Listed(Row {
+        Head::CONFIRMATION => Some(Row {
             writer: Writer::Administrator,
             parent: ParentRule::OfType(Head::EXTRACTION),
             counts: Counts::SetAndEach(Format::NARROW, Size::SHARE),
         }),
-        _ => Listing::Unlisted,
+        _ => None,
     }
 }
 
 // The rows of the items of hidden tracks.
-fn hidden_row(code: u32) -> Listing
+fn hidden_row(code: u32) -> Option<Row>
     ensures { (f : model.Format) → row_of hidden_kind code result ≡ row_in hidden_kind code (table f) }
 {
     match code {
-        Head::TRACK => Listing::Listed(Row {
+        Head::TRACK => Some(Row {
             writer: Writer::BallotBox,
             parent: ParentRule::OfType(Head::BALLOT),
             counts: Counts::FromTo(0, 0),
         }),
-        Head::VERIFIER => Listing::Listed(Row {
+        Head::VERIFIER => Some(Row {
             writer: Writer::Verifier,
             parent: ParentRule::OfType(Head::TRACK),
             counts: Counts::FromTo(Size::KEY, Size::KEY),
         }),
-        Head::VOTER_OPENING => Listing::Listed(Row {
+        Head::VOTER_OPENING => Some(Row {
             writer: Writer::Voter,
             parent: ParentRule::OfType(Head::VERIFIER),
             counts: Counts::FromTo(1, Size::OPENING),
         }),
-        Head::SERVER_OPENING => Listing::Listed(Row {
+        Head::SERVER_OPENING => Some(Row {
             writer: Writer::BallotBox,
             parent: ParentRule::OfType(Head::VOTER_OPENING),
             counts: Counts::FromTo(1, Size::OPENING),
         }),
-        _ => Listing::Unlisted,
+        _ => None,
     }
 }

@@ -1,7 +1,7 @@
 -- What the audit's running state stands for: what the rules ask of the items so far. Each field is what a definition gives for the first
 -- items of the board, so the state is determined by the board and their number.
 -- Paper: "Item types" (latest config, keys), "Phases", "Content". Assumes nothing.
-use Rattle.std.specs.Prelude.{◌≡◌, List, ℕ, ◌<◌, ◌≤◌, length, get_or, T}
+use Rattle.std.specs.Prelude.{◌≡◌, List, ℕ, ◌<◌, ◌≤◌, length, get_or, T, Some}
 use Rattle.model.specs.Lists.{count}
 use Rattle.model.specs.Words.{kind_of, code_of, count_of}
 use Rattle.model.specs.Codes.{threshold_type, authorizer_type, intent_type}
@@ -13,7 +13,6 @@ use Rattle.model.specs.Audit.{item_limit}
 use Rattle.format.specs.Format.{format_of}
 use Rattle.format.specs.Table.{row_of}
 use Rattle.format.specs.declared.table.Row.{Row}
-use Rattle.format.specs.declared.table.Listing.TheVariants.{Listed}
 use Rattle.index.specs.Kept.{before, item_after, Kept}
 use Rattle.index.specs.Known.{known_of}
 use Rattle.index.specs.declared.Known.{Known}
@@ -50,4 +49,4 @@ pub record AtItem (board index : List ℕ) (s : State) (c : Known) : Type 0 wher
 -- the code's row of the table is that of the item's head
 abbrev pub IsRow : List ℕ → State → Row → Type 0
 IsRow board s r =
-    types.row_of (format_of board) (get_or board s.place 0) ≡ row_of (kind_of (get_or board s.place 0)) (code_of (get_or board s.place 0)) (Listed r)
+    types.row_of (format_of board) (get_or board s.place 0) ≡ row_of (kind_of (get_or board s.place 0)) (code_of (get_or board s.place 0)) (Some r)

@@ -111,7 +111,7 @@ fn earliest(test: bool, n: usize, old: usize) -> usize
 fn is_config(code: u32) -> bool
     ensures { result ≡ between 1 6 code }
 {
-    Phase::of(code).number == Phase::CONFIG
+    Phase::of(code) == Some(Phase::Config)
 }
 
 // The defined contests with the next item: a type 3 defines one.
