@@ -15,6 +15,8 @@ use format::head::Head;
 use format::item::Item;
 use format::limit::Limit;
 
+pub mod passed;
+
 // An item that was passed, or one that is judged: where its parts stand, the item number of its parent (its own for genesis, 0 where it is
 // not found), and that of its session (its own for a session, 0 where it has none).
 #[derive(Clone, Copy)]

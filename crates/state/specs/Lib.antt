@@ -2,3 +2,4 @@
 pub mod After
 pub mod Standing
 pub mod Stands
+pub mod Reached

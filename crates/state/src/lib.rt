@@ -14,6 +14,9 @@ use format::head::Head;
 use format::phase::Phase;
 use index::Known;
 
+pub mod candidate;
+pub mod progress;
+
 // Item numbers count from 1, and 0 says that there is none.
 #[derive(Clone, Copy)]
 pub struct State {
