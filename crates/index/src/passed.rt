@@ -19,6 +19,7 @@ impl<'a> Passed<'a> {
     ghost use Rattle.index.specs.Passed.{history_of};
 
     // Item number k.
+    #[tactic(auto, using(crate::proofs::Had::had))]
     pub fn entry(&self, k: usize) -> Known
         requires { (1 ≤ k) × (k ≤ self.now.count) }
         ensures { IsKnown self.now.board.now (entry_of (history_of self.now) k) result }
@@ -27,6 +28,7 @@ impl<'a> Passed<'a> {
     }
 
     // The number of the parent of item number k.
+    #[tactic(auto, using(crate::proofs::Had::had))]
     pub fn parent(&self, k: usize) -> usize
         requires { (1 ≤ k) × (k ≤ self.now.count) }
         ensures { result ≡ (entry_of (history_of self.now) k).parent }
@@ -35,6 +37,7 @@ impl<'a> Passed<'a> {
     }
 
     // How many main items stand before item number k.
+    #[tactic(auto, using(crate::proofs::Had::had))]
     pub fn mains_before(&self, k: usize) -> usize
         requires { (1 ≤ k) × (k ≤ self.now.count) }
         ensures { result ≡ main_number (history_of self.now) (k - 1) }
@@ -43,6 +46,7 @@ impl<'a> Passed<'a> {
     }
 
     // The number of the cast or spoil under item number k: 0 for other items and open ballots.
+    #[tactic(auto, using(crate::proofs::Had::had))]
     pub fn closer(&self, k: usize) -> usize
         requires { (1 ≤ k) × (k ≤ self.now.count) }
         ensures { result ≡ closer_of (history_of self.now) k }

@@ -22,8 +22,8 @@ impl<'a> Candidate<'a> {
 
     // The items that passed.
     pub fn passed(&self) -> Passed<'a>
-        ensures board { result.entry.board.now ≡ self.now.board.now }
-        ensures count { result.entry.count ≡ self.now.state.items }
+        ensures board { result.board.now ≡ self.now.board.now }
+        ensures count { result.count ≡ self.now.state.items }
     {
         Passed {
             board: self.board,
@@ -34,8 +34,8 @@ impl<'a> Candidate<'a> {
 
     // How far the audit has come before it.
     pub fn progress(&self) -> Progress<'a>
-        ensures board { result.entry.board.now ≡ self.now.board.now }
-        ensures state { result.entry.state ≡ self.now.state }
+        ensures board { result.board.now ≡ self.now.board.now }
+        ensures state { result.state ≡ self.now.state }
     {
         Progress {
             board: self.board,

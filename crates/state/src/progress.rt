@@ -19,8 +19,8 @@ impl<'a> Progress<'a> {
 
     // The items that passed.
     pub fn passed(&self) -> Passed<'a>
-        ensures board { result.entry.board.now ≡ self.now.board.now }
-        ensures count { result.entry.count ≡ self.now.state.items }
+        ensures board { result.board.now ≡ self.now.board.now }
+        ensures count { result.count ≡ self.now.state.items }
     {
         Passed {
             board: self.board,
