@@ -8,15 +8,13 @@ ghost use Rattle.model.specs.Links.{address_ok, previous_ok, parent_ok, time_ok}
 ghost use Rattle.format.specs.Format.{format_of};
 ghost use Rattle.format.specs.Layout.{item_of, item_on};
 ghost use Rattle.format.specs.Table.{parent_rule_of};
-ghost use Rattle.index.specs.Kept.{before, item_after, rule_after};
-ghost use Rattle.state.specs.Stands.{AtItem, IsRow};
+ghost use Rattle.state.specs.Reached.{history_before, item_at, rule_at};
 
 use format::format::Format;
 use format::head::Head;
 use format::item::Item;
-use format::table::{ParentRule, Row};
-use index::Known;
-use state::State;
+use format::table::ParentRule;
+use state::candidate::{Candidate, ListedItem};
 
 // 7 false address: whether the address is the hash of the item's hashed words, which are read where they stand on the board.
 pub fn address_ok(board: &[u32], item: Item) -> bool
@@ -31,65 +29,61 @@ pub fn address_ok(board: &[u32], item: Item) -> bool
 }
 
 // 8 broken history: whether a main item names the main item before it, and a hidden item its parent.
-pub fn previous_ok(board: &[u32], index: &[u32], s: State, c: Known) -> bool
-    requires { AtItem board.now index.now s c }
-    ensures { result ≡ rule_after previous_ok board.now s.items }
+pub fn previous_ok(next: &Candidate) -> bool
+    ensures { result ≡ rule_at previous_ok next.now }
 {
+    let board = next.board;
+    let item = next.known.item;
+    let last = next.state.last;
     let width = Format::of(board).address;
-    let at = c.item.previous;
-    if c.item.head.kind != Head::MAIN {
-        return words::same_words(board, at, board, c.item.parent, width);
+    let at = item.previous;
+    if item.head.kind != Head::MAIN {
+        return words::same_words(board, at, board, item.parent, width);
     }
-    if s.last == 0 {
+    if last == 0 {
         return words::is_zero(board, at, width);
     }
-    let e = index::entry(board, index, s.items, s.last);
+    let e = next.passed().entry(last);
     words::same_words(board, at, board, e.item.address, width)
 }
 
 // 9 orphan: whether the parent is found, and is as listed.
-pub fn parent_ok(board: &[u32], index: &[u32], s: State, c: Known, row: Row) -> bool
-    requires { (AtItem board.now index.now s c) × (IsRow board.now s row) }
-    ensures { result ≡ parent_ok (format_of board.now) (before board.now s.items) (parent_rule_of row.parent)
-        (item_after board.now s.items) }
+pub fn parent_ok(listed: &ListedItem) -> bool
+    ensures { result ≡ parent_ok (format_of listed.now.candidate.now.board.now) (history_before listed.now.candidate.now)
+        (parent_rule_of listed.now.row.parent) (item_at listed.now.candidate.now) }
 {
-    let rule = row.parent;
-    match rule {
-        ParentRule::Zeros => words::is_zero(board, c.item.parent, Format::of(board).address),
-        ParentRule::LatestConfig => {
-            if c.parent == 0 {
-                return false;
-            }
-            c.parent == s.config
+    let next = listed.candidate;
+    let parent = next.known.parent;
+    match listed.row.parent {
+        ParentRule::Zeros => {
+            let board = next.board;
+            words::is_zero(board, next.known.item.parent, Format::of(board).address)
         }
-        ParentRule::OfType(code) => {
-            if c.parent == 0 {
-                return false;
-            }
-            index::entry(board, index, s.items, c.parent).item.head.code == code
-        }
+        ParentRule::LatestConfig => parent != 0 && parent == next.state.config,
+        ParentRule::OfType(code) => parent != 0
+            && next.passed().entry(parent).item.head.code == code,
     }
 }
 
 // The number of the item that an item must not be earlier than: the last main item, for a hidden item its parent; 0 if there is none.
-fn earlier(s: State, c: Known) -> usize
-    ensures { result ≡ (if eqb c.item.head.kind main_kind then s.last otherwise c.parent) }
+fn earlier(next: &Candidate) -> usize
+    ensures { result ≡ (if eqb next.now.known.item.head.kind main_kind then next.now.state.last otherwise next.now.known.parent) }
 {
-    if c.item.head.kind == Head::MAIN {
-        return s.last;
+    if next.known.item.head.kind == Head::MAIN {
+        return next.state.last;
     }
-    c.parent
+    next.known.parent
 }
 
 // 10 backward clock: whether the time is not less than the previous main item's, for a hidden item its parent's.
-pub fn time_ok(board: &[u32], index: &[u32], s: State, c: Known) -> bool
-    requires { AtItem board.now index.now s c }
-    ensures { result ≡ time_ok (before board.now s.items) (item_after board.now s.items) }
+pub fn time_ok(next: &Candidate) -> bool
+    ensures { result ≡ time_ok (history_before next.now) (item_at next.now) }
 {
-    let number = earlier(s, c);
+    let number = earlier(next);
     if number == 0 {
         return true;
     }
-    let e = index::entry(board, index, s.items, number);
-    words::pair_at(board, e.item.time) <= words::pair_at(board, c.item.time)
+    let board = next.board;
+    let e = next.passed().entry(number);
+    words::pair_at(board, e.item.time) <= words::pair_at(board, next.known.item.time)
 }

@@ -10,7 +10,8 @@ use Rattle.index.specs.Kept.{Kept}
 use Rattle.index.specs.declared.Known.{Known}
 use Rattle.index.proofs.Had.{listed-had, same_row, kept-had}
 use Rattle.state.specs.declared.State.{State}
-use Rattle.state.specs.Stands.{Stands, AtItem}
+use Rattle.state.specs.Stands.{Stands, AtItem, IsRow}
+use Rattle.format.specs.declared.table.Row.{Row}
 
 -- the state after the first items
 pub stands-had : {board : List ℕ} {s : State} → ∥ Stands board s ∥₁ → Stands board s
@@ -51,5 +52,9 @@ at-had {board} {index} {s} {c} t =
       within = ∥∥₁_elim t (hlevel props) (λ a. a.within);
     }
 
+-- its row of the table
+pub row-had : (board : List ℕ) (s : State) (r : Row) → ∥ IsRow board s r ∥₁ → IsRow board s r
+row-had board s r t = ∥∥₁_elim t (hlevel props) (λ r. r)
+
 -- for the attribute of a function that needs such a fact
-pub ruleset had = (kept-had, stands-had, kept-held, stands-held, at-had)
+pub ruleset had = (kept-had, stands-had, kept-held, stands-held, at-had, row-had)

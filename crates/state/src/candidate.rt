@@ -1,8 +1,9 @@
 // The item after those that passed, which the rules are asked about.
-ghost use Rattle.state.specs.Stands.{AtItem};
+ghost use Rattle.state.specs.Stands.{AtItem, IsRow};
 
 use crate::State;
 use crate::progress::Progress;
+use format::table::Row;
 use index::Known;
 use index::passed::Passed;
 
@@ -18,7 +19,10 @@ pub struct Candidate<'a> {
 }
 
 impl<'a> Candidate<'a> {
-    ghost use Rattle.std.specs.Prelude.{◌≡◌};
+    ghost use Rattle.std.specs.Prelude.{◌≡◌, ◌≤◌};
+    ghost use Rattle.model.specs.History.{entry, closer};
+    ghost use Rattle.index.specs.Known.{IsKnown};
+    ghost use Rattle.state.specs.Reached.{history_before};
 
     // The items that passed.
     pub fn passed(&self) -> Passed<'a>
@@ -32,6 +36,30 @@ impl<'a> Candidate<'a> {
         }
     }
 
+    // Item number k.
+    pub fn entry(&self, k: usize) -> Known
+        requires { (1 ≤ k) × (k ≤ self.now.state.items) }
+        ensures { IsKnown self.now.board.now (entry (history_before self.now) k) result }
+    {
+        self.passed().entry(k)
+    }
+
+    // The number of the parent of item number k.
+    pub fn parent(&self, k: usize) -> usize
+        requires { (1 ≤ k) × (k ≤ self.now.state.items) }
+        ensures { result ≡ (entry (history_before self.now) k).parent }
+    {
+        self.passed().parent(k)
+    }
+
+    // The number of the cast or spoil under item number k: 0 for other items and open ballots.
+    pub fn closer(&self, k: usize) -> usize
+        requires { (1 ≤ k) × (k ≤ self.now.state.items) }
+        ensures { result ≡ closer (history_before self.now) k }
+    {
+        self.passed().closer(k)
+    }
+
     // How far the audit has come before it.
     pub fn progress(&self) -> Progress<'a>
         ensures board { result.board.now ≡ self.now.board.now }
@@ -43,4 +71,12 @@ impl<'a> Candidate<'a> {
             state: self.state,
         }
     }
+}
+
+// Such an item with its row of the table of item types.
+#[derive(Clone, Copy)]
+pub struct ListedItem<'a> {
+    pub candidate: &'a Candidate<'a>,
+    pub row: Row,
+    pub ghost listed: { ∥ IsRow candidate.now.board.now candidate.now.state row ∥₁ },
 }

@@ -3,6 +3,7 @@ ghost use Rattle.index.specs.Kept.{Kept};
 ghost use Rattle.state.specs.Stands.{Stands};
 
 use crate::State;
+use index::Known;
 use index::passed::Passed;
 
 // The board, the index table with the rows of the items that passed, and the state behind them.
@@ -15,7 +16,10 @@ pub struct Progress<'a> {
 }
 
 impl<'a> Progress<'a> {
-    ghost use Rattle.std.specs.Prelude.{◌≡◌};
+    ghost use Rattle.std.specs.Prelude.{◌≡◌, ◌≤◌};
+    ghost use Rattle.model.specs.History.{entry};
+    ghost use Rattle.index.specs.Known.{IsKnown};
+    ghost use Rattle.state.specs.Reached.{history_behind};
 
     // The items that passed.
     pub fn passed(&self) -> Passed<'a>
@@ -27,5 +31,13 @@ impl<'a> Progress<'a> {
             index: self.index,
             count: self.state.items,
         }
+    }
+
+    // Item number k.
+    pub fn entry(&self, k: usize) -> Known
+        requires { (1 ≤ k) × (k ≤ self.now.state.items) }
+        ensures { IsKnown self.now.board.now (entry (history_behind self.now) k) result }
+    {
+        self.passed().entry(k)
     }
 }
