@@ -43,7 +43,7 @@ pub fn previous_ok(next: &Candidate) -> bool
     if last == 0 {
         return words::is_zero(board, at, width);
     }
-    let e = next.passed().entry(last);
+    let e = next.entry(last);
     words::same_words(board, at, board, e.item.address, width)
 }
 
@@ -60,8 +60,7 @@ pub fn parent_ok(listed: &ListedItem) -> bool
             words::is_zero(board, next.known.item.parent, Format::of(board).address)
         }
         ParentRule::LatestConfig => parent != 0 && parent == next.state.config,
-        ParentRule::OfType(code) => parent != 0
-            && next.passed().entry(parent).item.head.code == code,
+        ParentRule::OfType(code) => parent != 0 && next.entry(parent).item.head.code == code,
     }
 }
 
@@ -84,6 +83,6 @@ pub fn time_ok(next: &Candidate) -> bool
         return true;
     }
     let board = next.board;
-    let e = next.passed().entry(number);
+    let e = next.entry(number);
     words::pair_at(board, e.item.time) <= words::pair_at(board, next.known.item.time)
 }
