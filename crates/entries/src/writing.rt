@@ -44,12 +44,8 @@ pub fn export(
         weight: _,
     } = answer
     {
-        let written = export::export_accepted(board, index, items, text);
-        if written.fits {
-            return Exported {
-                report,
-                bytes: written.bytes,
-            };
+        if let Some(bytes) = export::export_accepted(board, index, items, text) {
+            return Exported { report, bytes };
         }
         // 2 short sheet
         return Exported {

@@ -4,14 +4,13 @@ use Prim.Native.Nat.{ℕ, ◌+◌, ◌*◌, ◌-◌, ◌≤◌}
 use native.Mathlib.Omega.{arith}
 use mathlib.Core.Path.{◌≡◌, refl, sym, ap, subst, ◌∙◌}
 use mathlib.Core.List.{List, [], ◌∷◌, ◌++◌, append_assoc}
-use lib.ListN.{length, length-append}
+use lib.ListN.{length, take, drop, length-append}
 use Rattle.model.specs.Lists.{part}
 use Rattle.model.specs.Words.{pair}
 use Rattle.model.specs.Format.{time_size}
 use Rattle.model.specs.Item as model
 use Rattle.model.specs.Item.{item_at, item_length}
 use Rattle.model.specs.Program.{decimal}
-use Rattle.model.proofs.Parts.{length_part}
 use Rattle.exporting.specs.Json.{bytes_of}
 use Rattle.exporting.specs.Export.{word_digits, hex_words, line_of}
 use Rattle.exporting.proofs.Hex.{length-hex_words}
@@ -82,9 +81,17 @@ content_key = bytes_of "\",\"content\":\""
 abbrev closing : List ℕ
 closing = bytes_of "\"}\n"
 
--- a key, and words of a board
-abbrev string : List ℕ → List ℕ → ℕ → ℕ → List ℕ
-string key board from n = key ++ hex_words (part from n board)
+-- a key, and words
+abbrev string : List ℕ → List ℕ → List ℕ
+string key words = key ++ hex_words words
+
+-- the words of a board from one place to another, as its slice has them
+abbrev pub from_to : ℕ → ℕ → List ℕ → List ℕ
+from_to from end board = take (end - from) (drop from board)
+
+part-from_to : (from n : ℕ) (board : List ℕ) → part from n board ≡ from_to from (from + n) board
+unfolding part
+part-from_to from n board = let e : from + n - from ≡ n = omega arith in rw e
 
 -- how many words an address has
 abbrev pub width : Item → ℕ
@@ -92,19 +99,17 @@ width item = item.end - item.address
 
 abbrev pub string_parts : List ℕ → Item → List (List ℕ)
 string_parts board item =
-    string parent_key board item.parent (width item)
-    ∷ string previous_key board item.previous (width item)
-    ∷ string address_key board item.address (width item)
-    ∷ string content_key board item.content item.head.count
+    string parent_key (from_to item.parent (item.parent + width item) board)
+    ∷ string previous_key (from_to item.previous (item.previous + width item) board)
+    ∷ string address_key (from_to item.address item.end board)
+    ∷ string content_key (from_to item.content (item.content + item.head.count) board)
     ∷ closing
     ∷ []
 
 -- what is asked to put a string where there is room
-pub string-room : {l : List ℕ} {i : ℕ} {texts : List (List ℕ)} (key board : List ℕ) (from n : ℕ) → from + n ≤ length board
-    → Room l i (string key board from n ∷ texts) → (i + length key + word_digits * n ≤ length l) × (from + n ≤ length board)
-string-room key board from n h r =
-    let ws = part from n board in
-    (omega (arith, first r, length-append key (hex_words ws), length-hex_words ws, length_part from n board h), h)
+pub string-room : {l : List ℕ} {i : ℕ} {texts : List (List ℕ)} (key words : List ℕ) → Room l i (string key words ∷ texts)
+    → i + length key + word_digits * length words ≤ length l
+string-room key words r = omega (arith, first r, length-append key (hex_words words), length-hex_words words)
 
 -- the words of an item are on the board
 pub record Stands (board : List ℕ) (item : Item) : Type 0 where
@@ -132,9 +137,9 @@ module _ (board : List ℕ) (p : ℕ) where
   }
 
   strings-at : strings_text (item_on board p) ≡ joined (string_parts board (item_of board p))
-  unfolding strings_text
+  unfolding strings_text part
   strings-at =
-      simp (append_assoc, ← content-is board p, ← parent_is board p, ← previous-is board p, ← address_is board p) (rw width_is)
+      simp (append_assoc, ← content-is board p, ← parent_is board p, ← previous-is board p, ← address_is board p, ← part-from_to) (rw width_is)
 
 module _ {board : List ℕ} {item : Item} (w : Whole board item) where
   pub stands : Stands board item
@@ -146,10 +151,11 @@ module _ {board : List ℕ} {item : Item} (w : Whole board item) where
   pub strings-parts : strings_text (item_on board item.place) ≡ joined (string_parts board item)
   strings-parts = strings-at board item.place ∙ ap (λ (i : Item). joined (string_parts board i)) (sym w.same)
 
-  pub put-strings : {l l₁ l₂ l₃ l₄ l₅ : List ℕ} {i i₁ i₂ i₃ i₄ i₅ : ℕ} → Put l i (string parent_key board item.parent (width item)) l₁ i₁
-      → Put l₁ i₁ (string previous_key board item.previous (width item)) l₂ i₂
-      → Put l₂ i₂ (string address_key board item.address (width item)) l₃ i₃
-      → Put l₃ i₃ (string content_key board item.content item.head.count) l₄ i₄
+  pub put-strings : {l l₁ l₂ l₃ l₄ l₅ : List ℕ} {i i₁ i₂ i₃ i₄ i₅ : ℕ}
+      → Put l i (string parent_key (from_to item.parent (item.parent + width item) board)) l₁ i₁
+      → Put l₁ i₁ (string previous_key (from_to item.previous (item.previous + width item) board)) l₂ i₂
+      → Put l₂ i₂ (string address_key (from_to item.address item.end board)) l₃ i₃
+      → Put l₃ i₃ (string content_key (from_to item.content (item.content + item.head.count) board)) l₄ i₄
       → Put l₄ i₄ closing l₅ i₅ → Put l i (strings_text (item_on board item.place)) l₅ i₅
   put-strings p p₁ p₂ p₃ p₄ = rw strings-parts (put_then p (put_then p₁ (put_then p₂ (put_then p₃ p₄))))
 

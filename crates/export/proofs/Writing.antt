@@ -1,20 +1,20 @@
 -- Laws of the export in a buffer: written item by item, and what is answered by the room that there is. Paper: request (xi). Assumes nothing.
 use Prim.Native.Nat.{ℕ, ◌+◌, ◌≤◌, ◌<◌, zero-le}
 use native.Mathlib.Omega.{arith}
-use mathlib.Core.Path.{◌≡◌, refl, ◌∙◌}
-use mathlib.Core.Bool.{Bool, true, false}
+use mathlib.Core.Path.{◌≡◌, refl, ap, ◌∙◌}
 use mathlib.Core.List.{List, []}
+use Rattle.std.specs.Prelude.{Option, Some, None}
 use lib.ListN.{length}
 use borrow.Author.Tests.{lt-ltb, le-ltb, lt-leb, le-leb}
 use Rattle.model.specs.Lists.{if◌then◌otherwise◌}
 use Rattle.model.specs.History.{History, entry}
 use Rattle.model.specs.Audit.{accepted}
 use Rattle.model.specs.Above.{buffer_after}
-use Rattle.exporting.specs.Export.{export_text, export_outcome, export_length, text_after}
+use Rattle.exporting.specs.Export.{export_text, export_outcome, text_after}
 use Rattle.text.specs.Put.{Put}
 use Rattle.text.proofs.Placed.{put-none, put_then, put-start, length-put}
 use Rattle.index.specs.Kept.{before}
-use Rattle.export.specs.Lines.{entry_text, fits_in}
+use Rattle.export.specs.Lines.{entry_text, fits_in, bytes_in}
 use Rattle.export.proofs.Items.{export_text-none, export_text-next, length-next, length-grows}
 
 -- an item with no text
@@ -47,20 +47,18 @@ module _ (board : List ℕ) (items : ℕ) {done at : ℕ} {text₀ text : List �
 -- ---- by the room
 
 -- what is answered, and what the buffer holds
-abbrev Answered : List ℕ → History → Bool → ℕ → List ℕ → Type 0
-Answered s h fits bytes t =
-    let o = export_outcome (length s) (accepted h) in
-    (fits ≡ fits_in (length s) h) × ((bytes ≡ export_length o) × (t ≡ text_after o s))
+abbrev Answered : List ℕ → History → Option ℕ → List ℕ → Type 0
+Answered s h bytes t = (bytes ≡ bytes_in (length s) h) × (t ≡ text_after (export_outcome (length s) (accepted h)) s)
 
 module _ (s : List ℕ) (h : History) {n : ℕ} (size : n ≡ length (export_text h)) where
-  pub answered-short : length s < n → Answered s h false 0 s
-  unfolding fits_in export_outcome if◌then◌otherwise◌ buffer_after
+  pub answered-short : length s < n → Answered s h None s
+  unfolding bytes_in fits_in export_outcome if◌then◌otherwise◌ buffer_after
   answered-short l =
       let less = rw size at l in
-      rw (lt-ltb (length s) (length (export_text h)) less, lt-leb (length (export_text h)) (length s) less) (refl, (refl, refl))
+      rw (lt-ltb (length s) (length (export_text h)) less, lt-leb (length (export_text h)) (length s) less) (refl, refl)
 
-  pub answered-whole : n ≤ length s → {t : List ℕ} → t ≡ text_after (accepted h) s → Answered s h true n t
-  unfolding fits_in export_outcome if◌then◌otherwise◌
+  pub answered-whole : n ≤ length s → {t : List ℕ} → t ≡ text_after (accepted h) s → Answered s h (Some n) t
+  unfolding bytes_in fits_in export_outcome if◌then◌otherwise◌
   answered-whole l wrote =
       let room = rw size at l in
-      rw (le-ltb (length s) (length (export_text h)) room, le-leb (length (export_text h)) (length s) room) (refl, (size, wrote))
+      rw (le-ltb (length s) (length (export_text h)) room, le-leb (length (export_text h)) (length s) room) (ap Some size, wrote)

@@ -1,5 +1,5 @@
 -- The text of an entry of a history, a line in two parts, and an item that stands whole on a board. Paper: request (xi). Assumes nothing.
-use Rattle.std.specs.Prelude.{ℕ, ◌≤◌, ◌≡◌, Bool, List, [], ◌++◌, length, leb}
+use Rattle.std.specs.Prelude.{ℕ, ◌≤◌, ◌≡◌, Bool, Option, Some, None, List, [], ◌++◌, length, leb}
 use Rattle.model.specs.Lists.{if◌then◌otherwise◌}
 use Rattle.model.specs.Item as model
 use Rattle.model.specs.History.{History, Entry, main}
@@ -18,6 +18,11 @@ entry_text e = if main e then line_of e.item otherwise []
 -- whether the export of a history fits into so many bytes
 unfoldable pub fits_in : ℕ → History → Bool
 fits_in room h = leb (length (export_text h)) room
+
+-- how many bytes are written into so many: those of the export, or none where it does not fit
+unfoldable pub bytes_in : ℕ → History → Option ℕ
+unfolding if◌then◌otherwise◌
+bytes_in room h = if fits_in room h then Some (length (export_text h)) otherwise None
 
 -- a line up to its numbers, and from there on
 unfoldable pub numbers_text : ℕ → ℕ → List ℕ

@@ -5,23 +5,16 @@
 ghost use Rattle.std.specs.Prelude.{◌≡◌, ◌+◌, ◌≤◌, ◌<◌, length};
 ghost use Rattle.model.specs.History.{entry};
 ghost use Rattle.model.specs.Audit.{accepted};
-ghost use Rattle.exporting.specs.Export.{export_text, export_outcome, export_length, text_after};
+ghost use Rattle.exporting.specs.Export.{export_text, export_outcome, text_after};
 ghost use Rattle.index.specs.Kept.{before, Kept};
 ghost use Rattle.text.specs.Put.{Put};
-ghost use Rattle.export.specs.Lines.{entry_text, fits_in};
+ghost use Rattle.export.specs.Lines.{entry_text, bytes_in};
 
 use format::head::Head;
 
 pub mod hex;
 pub mod line;
 pub mod size;
-
-// Whether the text fits into the buffer, and, if it does, how many bytes it has; else 0.
-#[derive(Clone, Copy)]
-pub struct Written {
-    pub fits: bool,
-    pub bytes: u32,
-}
 
 // Writes the line of the item after the first done, if it is a main item, and gives the place behind it.
 fn put_next(
@@ -50,33 +43,23 @@ fn put_all(board: &[u32], index: &[u32], items: usize, text: &mut [u8])
     ensures { text.new ≡ text_after (accepted (before board.now items)) text.old }
 {
     let mut at = 0;
-    let mut done = 0;
-    while done < items {
+    for done in 0..items {
         at = put_next(text, at, board, index, items, done);
-        done += 1;
     }
 }
 
-// Exports a board that was accepted. Where the buffer is shorter than the text, no byte is written.
-pub fn export_accepted(board: &[u32], index: &[u32], items: u32, text: &mut [u8]) -> Written
+// Exports a board that was accepted, and gives how many bytes its text has. Where the buffer is shorter than the text, no byte is written.
+pub fn export_accepted(board: &[u32], index: &[u32], items: u32, text: &mut [u8]) -> Option<u32>
     requires { Kept board.now index.now items }
-    ensures fits { result.fits ≡ fits_in (length text.old) (before board.now items) }
-    ensures bytes { result.bytes
-        ≡ export_length (export_outcome (length text.old) (accepted (before board.now items))) }
+    ensures bytes { result ≡ bytes_in (length text.old) (before board.now items) }
     ensures text { text.new
         ≡ text_after (export_outcome (length text.old) (accepted (before board.now items))) text.old }
 {
     let total = words::wide(items);
     let bytes = size::of_text(board, index, total);
     if text.len() < bytes {
-        return Written {
-            fits: false,
-            bytes: 0,
-        };
+        return None;
     }
     put_all(board, index, total, text);
-    Written {
-        fits: true,
-        bytes: bytes as u32,
-    }
+    Some(bytes as u32)
 }

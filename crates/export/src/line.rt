@@ -1,6 +1,5 @@
 // The line of a main item: an object with six members, whose keys are fixed bytes. Each function gives the place behind what it put.
 ghost use Rattle.std.specs.Prelude.{◌++◌, ◌+◌, ◌*◌, ◌≤◌, length};
-ghost use Rattle.model.specs.Lists.{part};
 ghost use Rattle.exporting.specs.Export.{word_digits, hex_words, line_of};
 ghost use Rattle.format.specs.Layout.{item_on};
 ghost use Rattle.text.specs.Put.{Put};
@@ -21,13 +20,13 @@ fn put_numbers(out: &mut [u8], at: usize, code: u32, time: u64) -> usize
     put::decimal(out, third, time)
 }
 
-// The n words of a board from a place on in hexadecimal, behind what stands before them: a key and the quotes.
-fn put_string(out: &mut [u8], at: usize, key: &[u8], board: &[u32], from: usize, n: usize) -> usize
-    requires { (at + length key.now + word_digits * n ≤ length out.old) × (from + n ≤ length board.now) }
-    ensures { Put out.old at (key.now ++ hex_words (part from n board.now)) out.new result }
+// Words in hexadecimal, behind what stands before them: a key and the quotes.
+fn put_string(out: &mut [u8], at: usize, key: &[u8], words: &[u32]) -> usize
+    requires { at + length key.now + word_digits * length words.now ≤ length out.old }
+    ensures { Put out.old at (key.now ++ hex_words words.now) out.new result }
 {
     let digits = put::bytes(out, at, key);
-    hex::put_words(out, digits, board, from, n)
+    hex::put_words(out, digits, words)
 }
 
 // The members with strings, parent, previous, address and content, the bracket and the end of the line.
@@ -36,32 +35,15 @@ fn put_strings(out: &mut [u8], at: usize, board: &[u32], item: Item) -> usize
     ensures { Put out.old at (strings_text (item_on board.now item.place)) out.new result }
 {
     let width = item.end - item.address;
-    let parent = put_string(out, at, b",\"parent\":\"", board, item.parent, width);
-    let previous = put_string(
-        out,
-        parent,
-        b"\",\"previous\":\"",
-        board,
-        item.previous,
-        width,
-    );
-    let address = put_string(
-        out,
-        previous,
-        b"\",\"address\":\"",
-        board,
-        item.address,
-        width,
-    );
-    let content = put_string(
-        out,
-        address,
-        b"\",\"content\":\"",
-        board,
-        item.content,
-        item.head.count,
-    );
-    put::bytes(out, content, b"\"}\n")
+    let parent = &board[item.parent..item.parent + width];
+    let previous = &board[item.previous..item.previous + width];
+    let address = &board[item.address..item.end];
+    let content = &board[item.content..item.content + item.head.count];
+    let previous_at = put_string(out, at, b",\"parent\":\"", parent);
+    let address_at = put_string(out, previous_at, b"\",\"previous\":\"", previous);
+    let content_at = put_string(out, address_at, b"\",\"address\":\"", address);
+    let end = put_string(out, content_at, b"\",\"content\":\"", content);
+    put::bytes(out, end, b"\"}\n")
 }
 
 // The line of an item.

@@ -56,10 +56,8 @@ pub fn of_text(board: &[u32], index: &[u32], items: usize) -> usize
     ensures { result ≡ length (export_text (before board.now items)) }
 {
     let mut total = 0;
-    let mut done = 0;
-    while done < items {
+    for done in 0..items {
         total += of_next(board, index, items, done);
-        done += 1;
     }
     total
 }

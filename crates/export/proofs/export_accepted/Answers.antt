@@ -12,8 +12,8 @@ use Rattle.export.proofs.export_accepted.Goals as goal
 pub returns-then-text-bytes : goal.returns-then-text-bytes
 returns-then-text-bytes c =
     let size : c.of_text-bytes.result ≡ length (export_text (before c.args.board.now c.args.items)) = rw c.wide-total.ensures at c.of_text-bytes.ensures in
-    let a = answered-short c.args.text.now _ size c.if-text-bytes.true in
-    record { fits = a.0; bytes = a.1.0; text = a.1.1 }
+    let (bytes, text) = answered-short c.args.text.now _ size c.if-text-bytes.true in
+    record { bytes = bytes; text = text }
 
 pub overflow_cast-result : goal.overflow_cast-result
 overflow_cast-result c =
@@ -23,5 +23,5 @@ overflow_cast-result c =
 pub returns : goal.returns
 returns c =
     let size : c.of_text-bytes.result ≡ length (export_text (before c.args.board.now c.args.items)) = rw c.wide-total.ensures at c.of_text-bytes.ensures in
-    let a = answered-whole c.args.text.now _ size c.if-text-bytes.false (rw c.wide-total.ensures at c.put_all.ensures) in
-    record { fits = a.0; bytes = a.1.0; text = a.1.1 }
+    let (bytes, text) = answered-whole c.args.text.now _ size c.if-text-bytes.false (rw c.wide-total.ensures at c.put_all.ensures) in
+    record { bytes = bytes; text = text }

@@ -3,7 +3,7 @@ use Rattle.export.proofs.Digits.{half_room, put_word}
 use Rattle.export.proofs.hex.put_word.Goals as goal
 
 pub put_four-requires : goal.put_four-requires
-put_four-requires c = (half_room c.args.w c.put_four-half.ensures c.requires.0, c.requires.1)
+put_four-requires c = half_room c.args.w c.put_four-half.ensures c.requires
 
 pub returns : goal.returns
 returns c = put_word c.args.w c.put_four-half.ensures c.put_four.ensures

@@ -1,24 +1,18 @@
--- `export::hex::put_words` meets its contract. The invariant: the first k words are put. Assumes nothing.
-use mathlib.Core.Path.{refl, ◌∙◌}
-use Rattle.model.specs.Lists.{part}
-use Rattle.exporting.specs.Json.{bytes_of}
-use Rattle.exporting.specs.Export.{hex_text, hex_words}
-use Rattle.text.proofs.Placed.{put-none}
-use Rattle.export.proofs.Digits.{put-word-more}
+-- `export::hex::put_words` meets its contract. The invariant: the first words are put. Assumes nothing.
 use native.Mathlib.Omega.{arith}
-use borrow.Author.Rules.{rules}
+use Rattle.export.proofs.Digits.{put-words-none, put-word-more, put-words-all}
 use Rattle.export.proofs.hex.put_words.Goals as goal
 
-pub loop-k-init : goal.loop-k-init
-unfolding hex_words part
-loop-k-init c = (search rules, put-none c.args.out.now c.args.at c.args.at (omega arith) refl, search rules, search rules)
+pub loop-word-init : goal.loop-word-init
+loop-word-init c = put-words-none c.args.out.now c.args.at (omega arith)
 
 pub put_word-end-requires : goal.put_word-end-requires
-unfolding hex_text bytes_of
-put_word-end-requires c = (search rules, refl)
+put_word-end-requires c = omega arith
 
-pub loop-k-preserved : goal.loop-k-preserved
-loop-k-preserved c =
-    let more = put-word-more c.args.board.now c.args.from c.loop-k.k c.args.n c.loop-k-test.true c.requires.1
-    c.loop-k.invariant.2 c.loop-k.invariant.1 c.put_word-end.ensures in
-    (more.0, more.1, more.2, c.put_word-end.auto.out ∙ c.loop-k.invariant.3)
+pub loop-word-preserved : goal.loop-word-preserved
+loop-word-preserved c =
+    let l = c.loop-word in
+    put-word-more c.args.words.now l.word-index c.loop-word-test.true l.invariant.1 l.invariant.0 c.put_word-end.ensures
+
+pub returns : goal.returns
+returns c = put-words-all c.args.words.now c.loop-word.word-index c.loop-word-test.false c.loop-word.invariant.0

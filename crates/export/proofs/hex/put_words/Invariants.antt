@@ -1,14 +1,10 @@
 use mathlib.Core.Path.{◌≡◌}
-use Prim.Native.Nat.{◌+◌, ◌*◌, ◌-◌, ◌≤◌}
-use lib.ListN.{length}
-use Rattle.model.specs.Lists.{part}
+use Prim.Native.Nat.{◌+◌, ◌*◌}
+use lib.ListN.{take}
 use Rattle.exporting.specs.Export.{word_digits, hex_words}
 use Rattle.text.specs.Put.{Put}
 use Rattle.export.proofs.hex.put_words.Given as goal
 
-abbrev pub invariant-loop-k : goal.invariant-loop-k
-invariant-loop-k l =
-    (l.k ≤ l.n) × (Put l.initial.out l.at (hex_words (part l.from l.k l.board)) l.out l.end) × (l.end ≡ l.at + word_digits * l.k) × (length l.out ≡ length l.initial.out)
-
-abbrev pub decreases-loop-k : goal.decreases-loop-k
-decreases-loop-k l = l.n - l.k
+abbrev pub invariant-loop-word : goal.invariant-loop-word
+invariant-loop-word l =
+    (Put l.initial.out l.at (hex_words (take l.word-index l.words)) l.out l.end) × (l.end ≡ l.at + word_digits * l.word-index)

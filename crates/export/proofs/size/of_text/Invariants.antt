@@ -1,4 +1,3 @@
-use Prim.Native.Nat.{◌-◌, ◌≤◌}
 use mathlib.Core.Path.{◌≡◌}
 use lib.ListN.{length}
 use Rattle.exporting.specs.Export.{export_text}
@@ -6,7 +5,4 @@ use Rattle.index.specs.Kept.{before}
 use Rattle.export.proofs.size.of_text.Given as goal
 
 abbrev pub invariant-loop-done : goal.invariant-loop-done
-invariant-loop-done l = (l.done ≤ l.items) × (l.total ≡ length (export_text (before l.board l.done)))
-
-abbrev pub decreases-loop-done : goal.decreases-loop-done
-decreases-loop-done l = l.items - l.done
+invariant-loop-done l = l.total ≡ length (export_text (before l.board l.done))
