@@ -1,2 +1,2 @@
 pub mod Fips
-pub mod Rounds
+pub mod Equations

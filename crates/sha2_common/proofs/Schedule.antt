@@ -1,8 +1,8 @@
 -- Laws of the message schedule, which grows by a word with each round, and of the rounds over it.
 use mathlib.Core.Path.{◌≡◌, refl, sym, ap, ap₂, ◌∙◌, subst}
 use mathlib.Core.Logic.{⊎_elim}
-use Prim.Native.Nat.{ℕ, zero, suc, ◌+◌, ◌-◌, ◌<◌}
-use mathlib.Core.List.{List, [], ◌∷◌, ◌++◌}
+use Prim.Native.Nat.{ℕ, zero, suc, ◌+◌, ◌-◌, ◌≤◌, ◌<◌}
+use mathlib.Core.List.{List, [], ◌∷◌}
 use native.Mathlib.Nat.{le_of_eq, eq-or-lt_of_le}
 use native.Mathlib.Numerals.{add-one}
 use native.Mathlib.Omega.{arith}
@@ -11,103 +11,159 @@ use mathlib.Core.Bool.{Bool, true, false, cond}
 use lib.Dec.{ltb}
 use lib.ListN.{length, get_or, take, set, length-set, length-append, get_or-append}
 use lib.Seq.{get_or_at, get_or-take, take_all, take-suc-set}
+use Rattle.std.proofs.Common.{le-ltb, lt-ltb}
+use Rattle.std.proofs.lemmas.List.{get_or_default}
+use Rattle.sha2_common.specs.declared.compression.Working.{Working}
+use Rattle.sha2_common.specs.Equations.{Functions, message_word, schedule, initialize, round, rounds, intermediate, compress}
 use Rattle.sha2_common.specs.Rounds.{Reached, Onward}
 
--- ---- the equations
-
-cond-else : (b : Bool) (x : ℕ) {y z : ℕ} → (b ≡ false → y ≡ z) → cond b x y ≡ cond b x z
+cond-else : {A : Type 0} (b : Bool) (x : A) {y z : A} → (b ≡ false → y ≡ z) → cond b x y ≡ cond b x z
 cond-else true x h = refl
 cond-else false x h = h refl
 
--- 6.2.2 and 6.4.2, 1: the word at t is one of the block M, or goes by four words before it
-module _ (f : ℕ → ℕ → ℕ → ℕ → ℕ) (M : List ℕ) where
-  abbrev word_by : List ℕ → ℕ → ℕ
-  word_by W t = cond (ltb t 16) (get_or M t 0) (f (get_or W (t - 2) 0) (get_or W (t - 7) 0) (get_or W (t - 15) 0) (get_or W (t - 16) 0))
+module _ {W : Type 0} (f : Functions W) where
+  -- ---- message_word
 
-  pub word-before : (U W : List ℕ) (t : ℕ) → ((j : ℕ) → j < t → get_or U j 0 ≡ get_or W j 0) → word_by U t ≡ word_by W t
-  word-before U W t same =
-      cond-else (ltb t 16) (get_or M t 0)
-      (λ e.
-      let p = ltb-false t 16 e in
-      rw (same (t - 2) (omega arith), same (t - 7) (omega arith), same (t - 15) (omega arith), same (t - 16) (omega arith)))
+  -- the two cases of 6.2.2 and 6.4.2, 1
+  pub message_word-first : (M w : List W) (t : ℕ) → t < 16 → message_word f M w t ≡ get_or M t f.none
+  unfolding message_word
+  message_word-first M w t p = rw lt-ltb
 
-module _ {A : Type 0} (n : ℕ) (K : List ℕ) (S : ℕ → List ℕ) (word : List ℕ → ℕ → ℕ) (R : A → ℕ → A) (round : A → ℕ → ℕ → A) where
-  -- 6.2.2 and 6.4.2, 1 and 3: the schedule S, where each word goes by those before it alone, and n rounds R over it
-  pub record Equations : Type 0 where
-    pub none : S 0 ≡ []
-    pub more : (t : ℕ) → S (suc t) ≡ S t ++ (word (S t) t ∷ [])
-    pub before : (U W : List ℕ) (t : ℕ) → ((j : ℕ) → j < t → get_or U j 0 ≡ get_or W j 0) → word U t ≡ word W t
-    pub start : (v : A) → R v 0 ≡ v
-    pub next : (v : A) (t : ℕ) → R v (suc t) ≡ round (R v t) (get_or K t 0) (get_or (S n) t 0)
+  pub message_word-next : (M w : List W) (t : ℕ) → 16 ≤ t
+      → message_word f M w t
+      ≡ f.sum
+      (f.sum (f.sum (f.small_sigma1 (get_or w (t - 2) f.none)) (get_or w (t - 7) f.none)) (f.small_sigma0 (get_or w (t - 15) f.none)))
+      (get_or w (t - 16) f.none)
+  unfolding message_word
+  message_word-next M w t p = rw le-ltb
 
-module _ {A : Type 0} {n : ℕ} {K : List ℕ} {S : ℕ → List ℕ} {word : List ℕ → ℕ → ℕ} {R : A → ℕ → A} {round : A → ℕ → ℕ → A}
-    (eqs : Equations n K S word R round) where
-  -- ---- the schedule
+  -- of the words before it only that they were read is known: i to l stand past the end of w
+  pub message_word-made : (M w : List W) (t : ℕ) (i j k l : W) → 16 ≤ t → t < length w → {σ₁ σ₀ a b r : W}
+      → σ₁ ≡ f.small_sigma1 (get_or w (t - 2) i) → a ≡ f.sum σ₁ (get_or w (t - 7) j) → σ₀ ≡ f.small_sigma0 (get_or w (t - 15) k)
+      → b ≡ f.sum a σ₀ → r ≡ f.sum b (get_or w (t - 16) l) → r ≡ message_word f M w t
+  message_word-made M w t i j k l p q d e g h s =
+      let x = get_or_default w (t - 2) i f.none (omega arith) in
+      let y = get_or_default w (t - 7) j f.none (omega arith) in
+      let z = get_or_default w (t - 15) k f.none (omega arith) in
+      let u = get_or_default w (t - 16) l f.none (omega arith) in
+      cc (message_word-next M w t p)
 
-  pub length-schedule : (t : ℕ) → length (S t) ≡ t
-  length-schedule zero = ap length eqs.none
-  length-schedule (suc t) =
-      ap length (eqs.more t) ∙ length-append (S t) (word (S t) t ∷ []) ∙ ap (λ (k : ℕ). k + 1) (length-schedule t) ∙ add-one t
+  module _ (M : List W) where
+    -- it goes by the words before it alone
+    word-before : (U w : List W) (t : ℕ) → ((j : ℕ) → j < t → get_or U j f.none ≡ get_or w j f.none)
+        → message_word f M U t ≡ message_word f M w t
+    unfolding message_word
+    word-before U w t same =
+        cond-else (ltb t 16) (get_or M t f.none)
+        (λ e.
+        let p = ltb-false t 16 e in
+        rw (same (t - 2) (omega arith), same (t - 7) (omega arith), same (t - 15) (omega arith), same (t - 16) (omega arith)))
 
-  -- the word at t, in a schedule of m words
-  get_or-schedule : (m t : ℕ) → t < m → get_or (S m) t 0 ≡ word (S t) t
-  get_or-schedule zero t p = omega arith
-  get_or-schedule (suc m) t p =
-      ap (λ (l : List ℕ). get_or l t 0) (eqs.more m)
-      ∙ ⊎_elim
-      (λ e. get_or_at (S m) (word (S m) m) [] 0 t (length-schedule m ∙ sym e) ∙ ap (λ (k : ℕ). word (S k) k) (sym e))
-      (λ q. get_or-append (S m) _ 0 t (omega (arith, length-schedule m)) ∙ get_or-schedule m t q)
-      (eq-or-lt_of_le {n = t} {m = m} (omega arith))
+    -- ---- the schedule
 
-  -- which goes by the words of that schedule, too
-  pub schedule-word : (m t : ℕ) → t < m → get_or (S m) t 0 ≡ word (S m) t
-  schedule-word m t p =
-      get_or-schedule m t p
-      ∙ eqs.before (S t) (S m) t (λ j q. get_or-schedule t j q ∙ sym (get_or-schedule m j (omega arith)))
+    pub length-schedule : (t : ℕ) → length (schedule f M t) ≡ t
+    unfolding schedule
+    length-schedule zero = refl
+    length-schedule (suc t) =
+        length-append (schedule f M t) (message_word f M (schedule f M t) t ∷ []) ∙ ap (λ (k : ℕ). k + 1) (length-schedule t) ∙ add-one t
 
-  -- a word is stored behind those before it
-  schedule-stored : (w : List ℕ) (t : ℕ) {x : ℕ} → x ≡ word (S t) t → t < length w → take t w ≡ S t → take (t + 1) (set w t x) ≡ S (t + 1)
-  schedule-stored w t d p e = rw (add-one, take-suc-set w t, e, d, eqs.more t)
+    -- the word at t, in a schedule of m words
+    get_or-schedule : (m t : ℕ) → t < m → get_or (schedule f M m) t f.none ≡ message_word f M (schedule f M t) t
+    unfolding schedule
+    get_or-schedule zero t p = absurd (omega arith)
+    get_or-schedule (suc m) t p =
+        ⊎_elim
+        (λ e. get_or_at (schedule f M m) (message_word f M (schedule f M m) m) [] f.none t (length-schedule m ∙ sym e)
+        ∙ ap (λ (k : ℕ). message_word f M (schedule f M k) k) (sym e))
+        (λ q. get_or-append (schedule f M m) _ f.none t (omega (arith, length-schedule m)) ∙ get_or-schedule m t q)
+        (eq-or-lt_of_le {n = t} {m = m} (omega arith))
 
-  -- ---- the rounds
+    -- which goes by the words of that schedule, too
+    schedule-word : (m t : ℕ) → t < m → get_or (schedule f M m) t f.none ≡ message_word f M (schedule f M m) t
+    schedule-word m t p =
+        get_or-schedule m t p
+        ∙ word-before (schedule f M t) (schedule f M m) t (λ j q. get_or-schedule t j q ∙ sym (get_or-schedule m j (omega arith)))
 
-  -- none yet
-  pub reached-none : (w : List ℕ) (first : A) → length w ≡ n → Reached n S R first 0 w first
-  reached-none w first l = record { sized = l; scheduled = sym eqs.none; worked = sym (eqs.start first) }
+    -- in the two cases
+    pub schedule-first : (m t : ℕ) → t < m → t < 16 → get_or (schedule f M m) t f.none ≡ get_or M t f.none
+    schedule-first m t p q = schedule-word m t p ∙ message_word-first M (schedule f M m) t q
 
-  -- one round, which makes its word of the schedule and stores it
-  pub onward-one : (w k : List ℕ) (t x : ℕ) (v r : A) → k ≡ K → x ≡ word w t → r ≡ round v (get_or k t 0) x → t < n
-      → Onward n S R t (t + 1) w v (set w t x) r
-  onward-one w k t x v r named made done p first s =
-      let same : (j : ℕ) → j < t → get_or w j 0 ≡ get_or (S t) j 0 =
-      λ j q. sym (get_or-take t w j 0 q) ∙ ap (λ (l : List ℕ). get_or l j 0) s.scheduled in
-      let d = made ∙ eqs.before w (S t) t same in
-      record {
-        sized = length-set w t x ∙ s.sized;
-        scheduled = schedule-stored w t d (omega (arith, s.sized)) s.scheduled;
-        worked =
-            done ∙ ap₂ (λ (l : List ℕ) (u : A). round u (get_or l t 0) x) named s.worked
-            ∙ ap (round (R first t) (get_or K t 0)) (d ∙ sym (get_or-schedule n t p)) ∙ sym (ap (R first) (add-one t) ∙ eqs.next first t);
-      }
+    pub schedule-next : (m t : ℕ) → t < m → 16 ≤ t → let S = schedule f M m in
+        get_or S t f.none
+        ≡ f.sum
+        (f.sum (f.sum (f.small_sigma1 (get_or S (t - 2) f.none)) (get_or S (t - 7) f.none)) (f.small_sigma0 (get_or S (t - 15) f.none)))
+        (get_or S (t - 16) f.none)
+    schedule-next m t p q = schedule-word m t p ∙ message_word-next M (schedule f M m) t q
 
-module _ {A : Type 0} {n : ℕ} {S : ℕ → List ℕ} {R : A → ℕ → A} where
-  pub onward-to : {t u u' : ℕ} {w w₁ : List ℕ} {v v₁ : A} → u ≡ u' → Onward n S R t u w v w₁ v₁ → Onward n S R t u' w v w₁ v₁
-  onward-to {w₁ = w₁} {v₁ = v₁} e f first s = subst (λ (k : ℕ). Reached n S R first k w₁ v₁) e (f first s)
+    -- a word is stored behind those before it
+    schedule-stored : (w : List W) (t : ℕ) {x : W} → x ≡ message_word f M (schedule f M t) t → t < length w → take t w ≡ schedule f M t
+        → take (t + 1) (set w t x) ≡ schedule f M (t + 1)
+    unfolding schedule
+    schedule-stored w t d p e = rw (add-one, take-suc-set w t, e, d)
 
-  -- what ends where the next begins
-  pub onward_then : {t u u' z : ℕ} {w w₁ w₂ : List ℕ} {v v₁ v₂ : A} → u ≡ u'
-      → Onward n S R t u w v w₁ v₁ → Onward n S R u' z w₁ v₁ w₂ v₂ → Onward n S R t z w v w₂ v₂
-  onward_then e f g first s = g first (onward-to e f first s)
+    -- ---- the rounds
 
-  pub onward-four : (t : ℕ) {w w₁ w₂ w₃ w₄ : List ℕ} {v v₁ v₂ v₃ v₄ : A}
-      → Onward n S R t (t + 1) w v w₁ v₁ → Onward n S R (t + 1) (t + 1 + 1) w₁ v₁ w₂ v₂
-      → Onward n S R (t + 2) (t + 2 + 1) w₂ v₂ w₃ v₃ → Onward n S R (t + 3) (t + 3 + 1) w₃ v₃ w₄ v₄ → Onward n S R t (t + 4) w v w₄ v₄
-  onward-four t a b c d =
-      let e : t + 1 + 1 ≡ t + 2 = omega arith in
-      let f : t + 2 + 1 ≡ t + 3 = omega arith in
-      let g : t + 3 + 1 ≡ t + 4 = omega arith in
-      onward-to g (onward_then f (onward_then e (onward_then refl a b) c) d)
+    module _ (n : ℕ) where
+      -- none yet
+      pub reached-none : (w : List W) (first : Working W) → length w ≡ n → Reached f n M first 0 w first
+      unfolding schedule rounds
+      reached-none w first l = record { sized = l; scheduled = refl; worked = refl }
 
-  -- after all rounds w is the schedule
-  pub schedule-end : {w : List ℕ} {v first : A} → Reached n S R first n w v → w ≡ S n
-  schedule-end {w = w} s = sym (take_all n w (le_of_eq s.sized)) ∙ s.scheduled
+      -- one round, which makes its word of the schedule and stores it
+      pub onward-one : (w k : List W) (t : ℕ) (x : W) (v r : Working W) → k ≡ f.constants → x ≡ message_word f M w t
+          → r ≡ round f v (get_or k t f.none) x → t < n → Onward f n M t (t + 1) w v (set w t x) r
+      unfolding rounds
+      onward-one w k t x v r named made done p first s =
+          let same : (j : ℕ) → j < t → get_or w j f.none ≡ get_or (schedule f M t) j f.none =
+          λ j q. sym (get_or-take t w j f.none q) ∙ ap (λ (l : List W). get_or l j f.none) s.scheduled in
+          let d = made ∙ word-before w (schedule f M t) t same in
+          record {
+            sized = length-set w t x ∙ s.sized;
+            scheduled = schedule-stored w t d (omega (arith, s.sized)) s.scheduled;
+            worked =
+                done ∙ ap₂ (λ (l : List W) (u : Working W). round f u (get_or l t f.none) x) named s.worked
+                ∙ ap (round f (rounds f (schedule f M n) first t) (get_or f.constants t f.none)) (d ∙ sym (get_or-schedule n t p))
+                ∙ sym (ap (rounds f (schedule f M n) first) (add-one t));
+          }
+
+      -- of its constant only that it was read is known: c stands past the end of k
+      pub onward-read : (w k : List W) (t : ℕ) (x c : W) (v r : Working W) → k ≡ f.constants → length k ≡ n → x ≡ message_word f M w t
+          → r ≡ round f v (get_or k t c) x → t < n → Onward f n M t (t + 1) w v (set w t x) r
+      onward-read w k t x c v r named all made done p =
+          let d = get_or_default k t c f.none (omega (arith, all)) in
+          onward-one w k t x v r named made (done ∙ ap (λ (i : W). round f v i x) d) p
+
+      pub onward-to : {t u u' : ℕ} {w w₁ : List W} {v v₁ : Working W} → u ≡ u' → Onward f n M t u w v w₁ v₁ → Onward f n M t u' w v w₁ v₁
+      onward-to {w₁ = w₁} {v₁ = v₁} e g first s = subst (λ (k : ℕ). Reached f n M first k w₁ v₁) e (g first s)
+
+      -- what ends where the next begins
+      pub onward_then : {t u u' z : ℕ} {w w₁ w₂ : List W} {v v₁ v₂ : Working W} → u ≡ u'
+          → Onward f n M t u w v w₁ v₁ → Onward f n M u' z w₁ v₁ w₂ v₂ → Onward f n M t z w v w₂ v₂
+      onward_then e g h first s = h first (onward-to e g first s)
+
+      pub onward-four : (t : ℕ) {w w₁ w₂ w₃ w₄ : List W} {v v₁ v₂ v₃ v₄ : Working W}
+          → Onward f n M t (t + 1) w v w₁ v₁ → Onward f n M (t + 1) (t + 1 + 1) w₁ v₁ w₂ v₂
+          → Onward f n M (t + 2) (t + 2 + 1) w₂ v₂ w₃ v₃ → Onward f n M (t + 3) (t + 3 + 1) w₃ v₃ w₄ v₄ → Onward f n M t (t + 4) w v w₄ v₄
+      onward-four t a b c d =
+          let e : t + 1 + 1 ≡ t + 2 = omega arith in
+          let g : t + 2 + 1 ≡ t + 3 = omega arith in
+          let h : t + 3 + 1 ≡ t + 4 = omega arith in
+          onward-to h (onward_then g (onward_then e (onward_then refl a b) c) d)
+
+      -- after all rounds w is the schedule
+      pub schedule-end : {w : List W} {v first : Working W} → Reached f n M first n w v → w ≡ schedule f M n
+      schedule-end {w = w} s = sym (take_all n w (le_of_eq s.sized)) ∙ s.scheduled
+
+  -- ---- the hash value
+
+  pub intermediate-made : (H : List W) (v s : Working W) {a b c d e g h i : W} → s ≡ initialize f H
+      → a ≡ f.sum v.a s.a → b ≡ f.sum v.b s.b → c ≡ f.sum v.c s.c → d ≡ f.sum v.d s.d → e ≡ f.sum v.e s.e → g ≡ f.sum v.f s.f
+      → h ≡ f.sum v.g s.g → i ≡ f.sum v.h s.h → a ∷ b ∷ c ∷ d ∷ e ∷ g ∷ h ∷ i ∷ [] ≡ intermediate f H v
+  unfolding intermediate
+  intermediate-made H v s o p q r t u x y z = cc
+
+  -- after all rounds
+  pub compress-end : (n : ℕ) (H M : List W) {r w : List W} {v first : Working W} → first ≡ initialize f H
+      → Reached f n M first n w v → r ≡ intermediate f H v → r ≡ compress f n H M
+  unfolding compress
+  compress-end n H M e s g = let d = s.worked in cc

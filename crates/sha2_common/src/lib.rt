@@ -1,6 +1,8 @@
 // What the hashes of FIPS 180-4 have in common: laws of rotations, of rounds and of feeding (proofs/), and words copied into a block.
 #![tactic(auto)]
 
+pub mod compression;
+
 ghost use Rattle.std.specs.Prelude.{◌≡◌, ◌+◌, ◌≤◌, length};
 ghost use Rattle.sha2_common.specs.State.{stored};
 

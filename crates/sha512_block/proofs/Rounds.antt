@@ -1,76 +1,43 @@
--- Laws of one block: the equations of 6.4.2, the words of the message schedule, and the rounds over it.
-use Rattle.std.proofs.Common.{◌≡◌, ℕ, ◌-◌, ◌<◌, ◌≤◌, List, [], ◌∷◌, length, get_or, refl, ◌∙◌, arith, le-ltb, lt-ltb}
+-- Laws of one block: its equations are those that sha2 has for any hash, and the words of the message schedule.
+use Rattle.std.proofs.Common.{◌≡◌, ℕ, zero, suc, ◌-◌, ◌<◌, ◌≤◌, List, [], ◌∷◌, ◌++◌, length, get_or, refl, sym, ap, ◌∙◌, arith}
+use Rattle.sha2_common.specs.Equations as sha2
 use Rattle.sha2_common.proofs.Schedule as laws
-use Rattle.sha2_common.proofs.Schedule.{Equations, word-before, schedule-word}
-use Rattle.sha512_block.specs.Fips.{◌⊞◌, ch, maj, big_sigma0, big_sigma1, small_sigma0, small_sigma1, K, message_word, schedule, t1, t2, round, rounds, initialize, intermediate, compress}
-use Rattle.sha512_block.specs.Rounds.{Reached}
-use Rattle.sha512_block.specs.declared.Working.{Working}
+use Rattle.sha512_block.specs.Fips.{◌⊞◌, small_sigma0, small_sigma1, K, message_word, schedule, t1, t2, round, rounds, Working, initialize, intermediate, compress}
+use Rattle.sha512_block.specs.Equations.{sha512_functions}
 
--- ---- the equations of 6.4.2, each from what its calls in the code give
+-- ---- the equations of 6.4.2 are those of sha2
 
-pub t1-made : (v : Working) (k w : ℕ) {σ f a b d r : ℕ} → σ ≡ big_sigma1 v.e → a ≡ v.h ⊞ σ → f ≡ ch v.e v.f v.g → b ≡ a ⊞ f
-    → d ≡ b ⊞ k → r ≡ d ⊞ w → r ≡ t1 v k w
-unfolding t1
-t1-made v k w p q s t u z = cc
+schedule-same : (M : List ℕ) (t : ℕ) → sha2.schedule sha512_functions M t ≡ schedule M t
+unfolding schedule sha2.schedule message_word sha2.message_word
+schedule-same M zero = refl
+schedule-same M (suc t) = ap (λ (W : List ℕ). W ++ (message_word M W t ∷ [])) (schedule-same M t)
 
-pub t2-made : (v : Working) {σ f r : ℕ} → σ ≡ big_sigma0 v.a → f ≡ maj v.a v.b v.c → r ≡ σ ⊞ f → r ≡ t2 v
-unfolding t2
-t2-made v p q s = cc
+rounds-same : (W : List ℕ) (v : Working) (t : ℕ) → sha2.rounds sha512_functions W v t ≡ rounds W v t
+unfolding rounds sha2.rounds round sha2.round t1 sha2.t1 t2 sha2.t2
+rounds-same W v zero = refl
+rounds-same W v (suc t) = ap (λ (u : Working). round u (get_or K t 0) (get_or W t 0)) (rounds-same W v t)
 
-pub round-made : (v : Working) (k w : ℕ) {i j a e : ℕ} → i ≡ t1 v k w → j ≡ t2 v → a ≡ i ⊞ j → e ≡ v.d ⊞ i
-    → record { a = a; b = v.a; c = v.b; d = v.c; e = e; f = v.e; g = v.f; h = v.g } ≡ round v k w
-unfolding round
-round-made v k w p q s t = cc
+-- what the code gives is what the standard says
+pub schedule-made : (M : List ℕ) {w : List ℕ} → w ≡ sha2.schedule sha512_functions M 80 → w ≡ schedule M 80
+schedule-made M e = e ∙ schedule-same M 80
 
-pub intermediate-made : (H : List ℕ) (v s : Working) {a b c d e f g h : ℕ} → s ≡ initialize H
-    → a ≡ v.a ⊞ s.a → b ≡ v.b ⊞ s.b → c ≡ v.c ⊞ s.c → d ≡ v.d ⊞ s.d → e ≡ v.e ⊞ s.e → f ≡ v.f ⊞ s.f
-    → g ≡ v.g ⊞ s.g → h ≡ v.h ⊞ s.h → a ∷ b ∷ c ∷ d ∷ e ∷ f ∷ g ∷ h ∷ [] ≡ intermediate H v
-unfolding intermediate
-intermediate-made H v s o p q r t u x y z = cc
+pub compress-made : (H M : List ℕ) {r : List ℕ} → r ≡ sha2.compress sha512_functions 80 H M → r ≡ compress H M
+unfolding compress sha2.compress intermediate sha2.intermediate
+compress-made H M e =
+    e
+    ∙ ap (λ (W : List ℕ). intermediate H (sha2.rounds sha512_functions W (initialize H) 80)) (schedule-same M 80)
+    ∙ ap (intermediate H) (rounds-same (schedule M 80) (initialize H) 80)
 
--- ---- message_word
-
--- the two cases of 6.4.2, 1
-pub message_word-first : (M W : List ℕ) (t : ℕ) → t < 16 → message_word M W t ≡ get_or M t 0
-unfolding message_word
-message_word-first M W t p = rw lt-ltb
-
-pub message_word-next : (M W : List ℕ) (t : ℕ) → 16 ≤ t
-    → message_word M W t ≡ small_sigma1 (get_or W (t - 2) 0) ⊞ get_or W (t - 7) 0 ⊞ small_sigma0 (get_or W (t - 15) 0) ⊞ get_or W (t - 16) 0
-unfolding message_word
-message_word-next M W t p = rw le-ltb
-
-pub message_word-made : (M W : List ℕ) (t : ℕ) → 16 ≤ t → {σ₁ σ₀ a b r : ℕ} → σ₁ ≡ small_sigma1 (get_or W (t - 2) 0) → a ≡ σ₁ ⊞ get_or W (t - 7) 0
-    → σ₀ ≡ small_sigma0 (get_or W (t - 15) 0) → b ≡ a ⊞ σ₀ → r ≡ b ⊞ get_or W (t - 16) 0 → r ≡ message_word M W t
-message_word-made M W t p q s u x y = cc (message_word-next M W t p)
-
--- ---- the rounds
-
--- what the laws of rounds ask for
-pub equations : (M : List ℕ) → Equations 80 K (schedule M) (message_word M) (rounds (schedule M 80)) round
-unfolding message_word schedule rounds
-equations M = record {
-  none = refl;
-  more = λ t. refl;
-  before = word-before (λ i j k l. small_sigma1 i ⊞ j ⊞ small_sigma0 k ⊞ l) M;
-  start = λ v. refl;
-  next = λ v t. refl;
-}
+-- ---- the message schedule
 
 pub length-schedule : (M : List ℕ) (t : ℕ) → length (schedule M t) ≡ t
-length-schedule M = laws.length-schedule (equations M)
+length-schedule M t = ap length (sym (schedule-same M t)) ∙ laws.length-schedule sha512_functions M t
 
 -- the schedule meets its equations in the standard
 module _ (M : List ℕ) where
   pub schedule-first : (t : ℕ) → t < 16 → get_or (schedule M 80) t 0 ≡ get_or M t 0
-  schedule-first t p = schedule-word (equations M) 80 t (omega arith) ∙ message_word-first M (schedule M 80) t p
+  schedule-first t p = rw (schedule-same M 80) at (laws.schedule-first sha512_functions M 80 t (omega arith) p)
 
   pub schedule-next : (t : ℕ) → 16 ≤ t → t < 80 → let W = schedule M 80 in
       get_or W t 0 ≡ small_sigma1 (get_or W (t - 2) 0) ⊞ get_or W (t - 7) 0 ⊞ small_sigma0 (get_or W (t - 15) 0) ⊞ get_or W (t - 16) 0
-  schedule-next t p q = schedule-word (equations M) 80 t q ∙ message_word-next M (schedule M 80) t p
-
--- after all of them
-pub compress-end : (H M r w : List ℕ) (v first : Working) → first ≡ initialize H
-    → Reached M first 80 w v → r ≡ intermediate H v → r ≡ compress H M
-unfolding compress
-compress-end H M r w v first e s f = let d = s.worked in cc
+  schedule-next t p q = rw (schedule-same M 80) at (laws.schedule-next sha512_functions M 80 t q p)

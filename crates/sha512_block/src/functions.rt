@@ -3,61 +3,58 @@
 // rotations are one by the sum of their amounts.
 ghost use Rattle.std.specs.Prelude.{◌≡◌, ◌<◌};
 ghost use Rattle.sha512_block.specs.Fips as fips;
+ghost use Rattle.sha512_block.specs.Equations.{sha512_functions};
 
-// The sum modulo 2 ^ 64.
-pub fn add(x: u64, y: u64) -> u64
-    ensures { result ≡ fips.◌⊞◌ x y }
-{
-    std::num::wrapping_add_u64(x, y)
-}
+use sha2_common::compression::Functions;
 
-pub fn rotr(x: u64, n: u64) -> u64
+// Kept: with u64::rotate_right in its place the compiler makes two words of the schedule at once, and a message takes 8 % longer.
+fn rotr(x: u64, n: u64) -> u64
     requires { (0 < n) × (n < 64) }
     ensures { result ≡ fips.rotr n x }
 {
     (x >> n) | (x << (64 - n))
 }
 
-pub fn ch(x: u64, y: u64, z: u64) -> u64
-    ensures { result ≡ fips.ch x y z }
-{
-    ((y ^ z) & x) ^ z
-}
+// SHA-384 and SHA-512, for what is the same in all hashes of the standard.
+pub struct Sha512;
 
-// In the rounds x ^ y is what the next round has as y ^ z, so that it is made once.
-pub fn maj(x: u64, y: u64, z: u64) -> u64
-    ensures { result ≡ fips.maj x y z }
-{
-    ((x ^ y) & (y ^ z)) ^ y
-}
+impl Functions for Sha512 {
+    type Word = u64;
 
-pub fn big_sigma0(x: u64) -> u64
-    ensures { result ≡ fips.big_sigma0 x }
-{
-    rotr(x ^ rotr(x ^ rotr(x, 5), 6), 28)
-}
+    ghost functions = { sha512_functions };
 
-pub fn big_sigma1(x: u64) -> u64
-    ensures { result ≡ fips.big_sigma1 x }
-{
-    rotr(x ^ rotr(x ^ rotr(x, 23), 4), 14)
-}
+    fn add(x: u64, y: u64) -> u64 {
+        x.wrapping_add(y)
+    }
 
-pub fn small_sigma0(x: u64) -> u64
-    ensures { result ≡ fips.small_sigma0 x }
-{
-    rotr(x ^ rotr(x, 7), 1) ^ (x >> 7)
-}
+    fn ch(x: u64, y: u64, z: u64) -> u64 {
+        ((y ^ z) & x) ^ z
+    }
 
-pub fn small_sigma1(x: u64) -> u64
-    ensures { result ≡ fips.small_sigma1 x }
-{
-    rotr(x ^ rotr(x, 42), 19) ^ (x >> 6)
-}
+    // In the rounds x ^ y is what the next round has as y ^ z, so that it is made once.
+    fn maj(x: u64, y: u64, z: u64) -> u64 {
+        ((x ^ y) & (y ^ z)) ^ y
+    }
 
-// The word whose halves are a and b.
-pub fn of_halves(a: u32, b: u32) -> u64
-    ensures { result ≡ fips.of_halves a b }
-{
-    (a as u64) * 0x1_0000_0000 + (b as u64)
+    fn big_sigma0(x: u64) -> u64 {
+        rotr(x ^ rotr(x ^ rotr(x, 5), 6), 28)
+    }
+
+    fn big_sigma1(x: u64) -> u64 {
+        rotr(x ^ rotr(x ^ rotr(x, 23), 4), 14)
+    }
+
+    fn small_sigma0(x: u64) -> u64 {
+        rotr(x ^ rotr(x, 7), 1) ^ (x >> 7)
+    }
+
+    fn small_sigma1(x: u64) -> u64 {
+        rotr(x ^ rotr(x, 42), 19) ^ (x >> 6)
+    }
+
+    // The two halves of the word, the higher first.
+    fn block_word(m: &[u32], t: usize) -> u64 {
+        let at = t * 2;
+        u64::from(m[at]) * 0x1_0000_0000 + u64::from(m[at + 1])
+    }
 }

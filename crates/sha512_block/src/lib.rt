@@ -1,15 +1,13 @@
-// One block of FIPS 180-4, 6.4.2: the schedule, the rounds and the next hash value.
+// One block of FIPS 180-4, 6.4.2: the constants, and the next hash value.
 #![tactic(auto)]
 
-mod functions;
+pub mod functions;
 
-ghost use Rattle.std.specs.Prelude.{◌≡◌, ℕ, ◌+◌, ◌<◌, ◌≤◌, List, length, slice_index};
+ghost use Rattle.std.specs.Prelude.{◌≡◌, length};
 ghost use Rattle.sha512_block.specs.Fips as fips;
-ghost use Rattle.sha512_block.specs.Rounds.{Onward};
 
-use crate::functions::{
-    add, big_sigma0, big_sigma1, ch, maj, of_halves, small_sigma0, small_sigma1,
-};
+use crate::functions::Sha512;
+use sha2_common::compression;
 
 // The constants of the rounds (4.2.3).
 const K: [u64; 80] = [
@@ -140,177 +138,6 @@ pub fn start512() -> [u64; 8]
     H0_512
 }
 
-// The eight working variables.
-#[derive(Clone, Copy)]
-pub struct Working {
-    pub a: u64,
-    pub b: u64,
-    pub c: u64,
-    pub d: u64,
-    pub e: u64,
-    pub f: u64,
-    pub g: u64,
-    pub h: u64,
-}
-
-fn initialize(h: [u64; 8]) -> Working
-    ensures { result ≡ fips.initialize h }
-{
-    Working {
-        a: h[0],
-        b: h[1],
-        c: h[2],
-        d: h[3],
-        e: h[4],
-        f: h[5],
-        g: h[6],
-        h: h[7],
-    }
-}
-
-fn t1(v: Working, k: u64, w: u64) -> u64
-    ensures { result ≡ fips.t1 v k w }
-{
-    add(add(add(add(v.h, big_sigma1(v.e)), ch(v.e, v.f, v.g)), k), w)
-}
-
-fn t2(v: Working) -> u64
-    ensures { result ≡ fips.t2 v }
-{
-    add(big_sigma0(v.a), maj(v.a, v.b, v.c))
-}
-
-// One round, at its constant k and its word w of the schedule.
-fn round(v: Working, k: u64, w: u64) -> Working
-    ensures { result ≡ fips.round v k w }
-{
-    let first = t1(v, k, w);
-    Working {
-        a: add(first, t2(v)),
-        b: v.a,
-        c: v.b,
-        d: v.c,
-        e: add(v.d, first),
-        f: v.e,
-        g: v.f,
-        h: v.g,
-    }
-}
-
-// The hash value after the block whose rounds end in v.
-fn intermediate(h: [u64; 8], v: Working) -> [u64; 8]
-    ensures { result ≡ fips.intermediate h v }
-{
-    let before = initialize(h);
-    [
-        add(v.a, before.a),
-        add(v.b, before.b),
-        add(v.c, before.c),
-        add(v.d, before.d),
-        add(v.e, before.e),
-        add(v.f, before.f),
-        add(v.g, before.g),
-        add(v.h, before.h),
-    ]
-}
-
-// The word of the block m at t, of its two halves.
-fn block_word(m: &[u32], t: usize) -> u64
-    requires { (length m.now ≡ 32) × (t < 16) }
-    ensures { result ≡ slice_index (fips.from_halves m.now) t }
-{
-    let at = t * 2;
-    of_halves(m[at], m[at + 1])
-}
-
-// One of the first 16 rounds: W at t is the word of the block m at t (6.4.2, 1).
-fn first_step(v: Working, k: &[u64; 80], m: &[u32], w: &mut [u64; 80], t: usize) -> Working
-    requires { (k.now ≡ fips.K) × (length m.now ≡ 32) × (t < 16) }
-    ensures { Onward (fips.from_halves m.now) t (t + 1) w.old v w.new result }
-{
-    let x = block_word(m, t);
-    w[t] = x;
-    round(v, k[t], x)
-}
-
-// Four of them in a row: after each the working variables change places, and after four no register has to be copied
-// for that.
-fn first_four(v: Working, k: &[u64; 80], m: &[u32], w: &mut [u64; 80], t: usize) -> Working
-    requires { (k.now ≡ fips.K) × (length m.now ≡ 32) × (t + 4 ≤ 16) }
-    ensures { Onward (fips.from_halves m.now) t (t + 4) w.old v w.new result }
-{
-    let a = first_step(v, k, m, w, t);
-    let b = first_step(a, k, m, w, t + 1);
-    let c = first_step(b, k, m, w, t + 2);
-    first_step(c, k, m, w, t + 3)
-}
-
-// The first 16 rounds.
-fn first_rounds(start: Working, k: &[u64; 80], m: &[u32], w: &mut [u64; 80]) -> Working
-    requires { (k.now ≡ fips.K) × (length m.now ≡ 32) }
-    ensures { Onward (fips.from_halves m.now) 0 16 w.old start w.new result }
-{
-    let mut v = start;
-    let mut t: usize = 0;
-    while t < 16 {
-        let next = first_four(v, k, m, w, t);
-        v = next;
-        t += 4;
-    }
-    v
-}
-
-// W at t, past the first 16, of the words before it, which w begins with (6.4.2, 1).
-fn message_word(w: &[u64; 80], t: usize) -> u64
-    requires { (16 ≤ t) × (t < 80) }
-    ensures { (M : List ℕ) → result ≡ fips.message_word M w.now t }
-{
-    add(
-        add(
-            add(small_sigma1(w[t - 2]), w[t - 7]),
-            small_sigma0(w[t - 15]),
-        ),
-        w[t - 16],
-    )
-}
-
-// One of the other 64 rounds. Its word of the schedule is made in the round that uses it, so that the two run side
-// by side in the processor.
-fn step(v: Working, k: &[u64; 80], w: &mut [u64; 80], t: usize) -> Working
-    requires { (k.now ≡ fips.K) × (16 ≤ t) × (t < 80) }
-    ensures { (M : List ℕ) → Onward M t (t + 1) w.old v w.new result }
-{
-    let x = message_word(w, t);
-    w[t] = x;
-    round(v, k[t], x)
-}
-
-// Four of them.
-fn four_steps(v: Working, k: &[u64; 80], w: &mut [u64; 80], t: usize) -> Working
-    requires { (k.now ≡ fips.K) × (16 ≤ t) × (t + 4 ≤ 80) }
-    ensures { (M : List ℕ) → Onward M t (t + 4) w.old v w.new result }
-{
-    let a = step(v, k, w, t);
-    let b = step(a, k, w, t + 1);
-    let c = step(b, k, w, t + 2);
-    step(c, k, w, t + 3)
-}
-
-// The other 64 rounds.
-fn later_rounds(start: Working, k: &[u64; 80], w: &mut [u64; 80]) -> Working
-    requires { k.now ≡ fips.K }
-    ensures { (M : List ℕ) → Onward M 16 80 w.old start w.new result }
-{
-    let mut v = start;
-    let mut t: usize = 16;
-    while t < 80 {
-        let next = four_steps(v, k, w, t);
-        v = next;
-        t += 4;
-    }
-    v
-}
-
 // The hash value h after the block m of 16 words, in 32 halves. The constants k and room w for the schedule are the caller's: who has
 // many blocks makes them once.
 pub fn compress(h: [u64; 8], m: &[u32], k: &[u64; 80], w: &mut [u64; 80]) -> [u64; 8]
@@ -318,8 +145,5 @@ pub fn compress(h: [u64; 8], m: &[u32], k: &[u64; 80], w: &mut [u64; 80]) -> [u6
     ensures value { result ≡ fips.compress h (fips.from_halves m.now) }
     ensures room { w.new ≡ fips.schedule (fips.from_halves m.now) 80 }
 {
-    let start = initialize(h);
-    let after = first_rounds(start, k, m, w);
-    let v = later_rounds(after, k, w);
-    intermediate(h, v)
+    compression::compress::<Sha512, 80>(h, m, k, w)
 }

@@ -1,14 +1,9 @@
--- `compress` meets its contract: the first 16 rounds, then the other 48.
-use Rattle.sha2_common.proofs.Schedule.{reached-none, schedule-end}
-use Rattle.sha256_block.proofs.Rounds.{equations, compress-end}
+-- `compress` meets its contract.
+use Rattle.sha256_block.proofs.Rounds.{schedule-made, compress-made}
 use Rattle.sha256_block.proofs.compress.Goals as goal
 
-pub returns : goal.returns
-returns c =
-    let M = c.args.m.now in
-    let after = c.first_rounds-after.ensures _ (reached-none (equations M) _ _ c.requires.2) in
-    let end = c.later_rounds-v.ensures M _ after in
-    record {
-      value = compress-end c.args.h M _ _ _ _ c.initialize-start.ensures end c.intermediate.ensures;
-      room = schedule-end end;
-    }
+pub returns-clause-value : goal.returns-clause-value
+returns-clause-value c = compress-made c.args.h c.args.m.now c.compress.ensures.value
+
+pub returns-clause-room : goal.returns-clause-room
+returns-clause-room c = schedule-made c.args.m.now c.compress.ensures.room

@@ -1,0 +1,9 @@
+-- `big_sigma1` meets its contract.
+use Rattle.std.proofs.Common.{arith}
+use Rattle.sha2_common.proofs.Rotations.{three-rotations}
+use Rattle.sha256_block.specs.Fips.{big_sigma1}
+use Rattle.sha256_block.proofs.functions.Sha256Functions.big_sigma1.Goals as goal
+
+pub returns : goal.returns
+unfolding big_sigma1
+returns c = three-rotations 32 6 5 14 c.args.x (omega arith) c.ranges.x.fits c.rotate_right.ensures c.rotate_right-2.ensures c.rotate_right-3.ensures

@@ -1,0 +1,6 @@
+-- `ch` meets its contract.
+use Rattle.sha2_common.proofs.Rotations.{ch-form}
+use Rattle.sha256_block.proofs.functions.Sha256Functions.ch.Goals as goal
+
+pub returns : goal.returns
+returns c = ch-form 32 c.args.x c.args.y c.args.z c.ranges.x.fits c.ranges.y.fits c.ranges.z.fits

@@ -1,6 +1,0 @@
--- `functions::maj` meets its contract.
-use Rattle.sha2_common.proofs.Rotations.{maj-form}
-use Rattle.sha256_block.proofs.functions.maj.Goals as goal
-
-pub returns : goal.returns
-returns c = maj-form 32 c.args.x c.args.y c.args.z c.ranges.x.fits c.ranges.y.fits c.ranges.z.fits

@@ -1,0 +1,9 @@
+-- `big_sigma0` meets its contract.
+use Rattle.std.proofs.Common.{arith}
+use Rattle.sha2_common.proofs.Rotations.{three-rotations}
+use Rattle.sha512_block.specs.Fips.{big_sigma0}
+use Rattle.sha512_block.proofs.functions.Sha512Functions.big_sigma0.Goals as goal
+
+pub returns : goal.returns
+unfolding big_sigma0
+returns c = three-rotations 64 28 6 5 c.args.x (omega arith) c.ranges.x.fits c.rotr.ensures c.rotr-2.ensures c.rotr-3.ensures

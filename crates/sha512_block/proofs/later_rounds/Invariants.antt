@@ -1,9 +1,0 @@
-use Rattle.std.proofs.Common.{◌≡◌, ℕ, ◌-◌, ◌%◌, ◌≤◌, List}
-use Rattle.sha512_block.specs.Rounds.{Onward}
-use Rattle.sha512_block.proofs.later_rounds.Given as goal
-
-abbrev pub invariant-loop-t : goal.invariant-loop-t
-invariant-loop-t l = (16 ≤ l.t) × (l.t ≤ 80) × (l.t % 4 ≡ 0) × ((M : List ℕ) → Onward M 16 l.t l.initial.w l.initial.v l.w l.v)
-
-abbrev pub decreases-loop-t : goal.decreases-loop-t
-decreases-loop-t l = 80 - l.t
