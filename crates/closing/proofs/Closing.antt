@@ -2,12 +2,11 @@
 use Prim.Native.Nat.{ℕ, ◌+◌, ◌-◌, ◌*◌, ◌≤◌}
 use native.Mathlib.Omega.{arith}
 use mathlib.Core.Path.{◌≡◌, sym, ap, ◌∙◌}
-use mathlib.Core.Bool.{Bool, true, false, not}
+use mathlib.Core.Bool.{Bool, true, false}
 use mathlib.Core.List.{List}
 use lib.ListN.{length, take, drop, replicate, length-take, length-drop, length-replicate, replicate-append-replicate}
 use lib.Seq.{sets}
 use lib.Dec.{eqb}
-use borrow.Author.Tests.{not-true, not-false}
 use Rattle.model.specs.Lists.{if◌then◌otherwise◌, part}
 use Rattle.model.specs.Refusal.{bad_closing}
 use Rattle.model.specs.Item.{item_length}
@@ -36,11 +35,11 @@ module _ (board verdicts : List ℕ) (s : State) where
   Closed = closing_ok board verdicts (before board s.items) s.place
 
   module _ {b : Bool} (e : b ≡ is_closed board s.items s.place) where
-    pub closed-word : not b ≡ true → false ≡ Closed
-    closed-word q = rw (length-history (format_of board) board s.items, ← e, not-true b q)
+    pub closed-word : b ≡ false → false ≡ Closed
+    closed-word q = rw (length-history (format_of board) board s.items, ← e, q)
 
-    pub closed-verdicts : not b ≡ false → eqb (9 * s.items) (length verdicts) ≡ Closed
-    closed-verdicts q = rw (length-history (format_of board) board s.items, ← e, not-false b q)
+    pub closed-verdicts : b ≡ true → eqb (9 * s.items) (length verdicts) ≡ Closed
+    closed-verdicts q = rw (length-history (format_of board) board s.items, ← e, q)
 
 -- ---- the end address
 

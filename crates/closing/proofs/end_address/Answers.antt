@@ -1,30 +1,31 @@
 -- `end_address` meets its contract. Assumes nothing.
 use native.Mathlib.Omega.{arith}
 use Rattle.state.proofs.At.{last-in-range, end_none, end-last}
+use Rattle.state.proofs.Had.{stands-held}
 use Rattle.closing.proofs.Closing.{address-in, words-few, end-put, end-zeros}
 use Rattle.closing.proofs.end_address.Goals as goal
 
-pub returns-then-s-eq0 : goal.returns-then-s-eq0
-returns-then-s-eq0 c = end-zeros c.args.board.now (end_none c.requires.1 c.if-s-eq0.true)
+pub returns-then-last-eq0 : goal.returns-then-last-eq0
+returns-then-last-eq0 c =
+    let p = c.args.progress.now in
+    end-zeros p.board.now (end_none (stands-held p.reached) c.if-last-eq0.true)
 
-pub entry-e-requires : goal.entry-e-requires
-entry-e-requires c =
-    let some = c.if-s-eq0.false in record {
-      kept = c.requires.0;
-      le_k = (omega arith, last-in-range c.requires.1);
-    }
+pub entry-requires : goal.entry-requires
+entry-requires c =
+    let some = c.if-last-eq0.false in
+    (omega arith, last-in-range (stands-held c.args.progress.now.reached))
 
-pub offset_bounds-board-from : goal.offset_bounds-board-from
-offset_bounds-board-from c = let a = address-in c.entry-e.ensures in omega arith
+pub offset_bounds-board-item : goal.offset_bounds-board-item
+offset_bounds-board-item c = let a = address-in c.entry.ensures in omega arith
 
 pub slice_bounds-put-count : goal.slice_bounds-put-count
-slice_bounds-put-count c = let a = address-in c.entry-e.ensures in omega arith
+slice_bounds-put-count c = let a = address-in c.entry.ensures in omega arith
 
 pub slice_bounds-put-start : goal.slice_bounds-put-start
-slice_bounds-put-start c = let a = address-in c.entry-e.ensures in omega arith
+slice_bounds-put-start c = let a = address-in c.entry.ensures in omega arith
 
 pub put-requires : goal.put-requires
-put-requires c = omega (arith, words-few c.entry-e.ensures)
+put-requires c = omega (arith, words-few c.entry.ensures)
 
 pub returns : goal.returns
-returns c = end-put c.entry-e.ensures (end-last c.requires.1 c.if-s-eq0.false) c.put.ensures
+returns c = end-put c.entry.ensures (end-last (stands-held c.args.progress.now.reached) c.if-last-eq0.false) c.put.ensures
