@@ -3,7 +3,7 @@ use Prim.Native.Nat.{ℕ, ◌+◌, ◌/◌, ◌≤◌}
 use native.Mathlib.Omega.{arith}
 use mathlib.Core.Path.{◌≡◌, sym}
 use mathlib.Core.Logic.{◌≢◌}
-use borrow.Author.Tests.{eq-eqb, ne_eqb}
+use borrow.Author.Tests.{eqb-false, ne_eqb}
 use lib.Dec.{eqb}
 use Rattle.model.specs.Lists.{if◌then◌otherwise◌}
 use Rattle.model.proofs.Tests.{by-test}
@@ -23,13 +23,11 @@ unfolding blocks_for
 blocks-512 n = rw (sha512.length-padding n, sha512.zero_bits-words n) (omega arith)
 
 -- by the number of the curve
-pub on-384 : (curve n : ℕ) → curve ≡ 1 → (n + 36) / 32 ≡ blocks_for (hash_on curve) n
+pub on-wide : (curve n : ℕ) → 1 ≤ curve → curve ≤ 2 → (n + 36) / 32 ≡ blocks_for (hash_on curve) n
 unfolding hash_on if◌then◌otherwise◌
-on-384 curve n q = rw (eq-eqb curve 1 q) (sym (blocks-512 n))
-
-pub on-521 : (curve n : ℕ) → curve ≡ 2 → (n + 36) / 32 ≡ blocks_for (hash_on curve) n
-unfolding hash_on if◌then◌otherwise◌
-on-521 curve n q = rw q (sym (blocks-512 n))
+on-wide curve n a b =
+    by-test (eqb curve 1) (λ q. rw q (sym (blocks-512 n)))
+    (λ q. let two : curve ≡ 2 = omega (arith, eqb-false curve 1 q) in rw two (sym (blocks-512 n)))
 
 pub on-256 : (curve n : ℕ) → curve ≢ 1 → curve ≢ 2 → (n + 18) / 16 ≡ blocks_for (hash_on curve) n
 unfolding hash_on if◌then◌otherwise◌

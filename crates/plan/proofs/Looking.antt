@@ -8,6 +8,7 @@ use mathlib.Core.List.{List}
 use lib.Dec.{ltb}
 use lib.ListN.{length, get_or}
 use borrow.Author.Tests.{lt-ltb, le-ltb}
+use Rattle.std.specs.Prelude.{Result, Ok, Err}
 use Rattle.model.specs.Lists.{if◌then◌otherwise◌}
 use Rattle.model.specs.Refusal.{no_fault, wrong_count, truncated}
 use Rattle.model.specs.Words.{count_of}
@@ -23,8 +24,6 @@ use Rattle.format.specs.declared.head.Head.{Head}
 use Rattle.format.proofs.Traits.{sizes}
 use Rattle.refusal.specs.Number.{number_of, found_of}
 use Rattle.refusal.specs.declared.Refusal.{Refusal}
-use Rattle.refusal.specs.declared.Finding.{Finding}
-use Rattle.refusal.specs.declared.Finding.TheVariants.{Passes, Fails}
 use Rattle.refusal.proofs.Laws.{number-some}
 use Rattle.planning.specs.Plan.{hash_on, blocks_for}
 use Rattle.plan.specs.Planned.{head_fault, count_fault, word_fault, blocks_at}
@@ -54,13 +53,13 @@ module _ (board : List ℕ) (p : ℕ) where
       by-test (types.fits r.counts (count_of word)) (λ t. rw t) (λ t. let e : wrong_count ≡ no_fault = rw t at q in absurd (omega arith))
 
   -- by what is found of the word
-  module _ {finding : Finding} (found : found_of finding ≡ word_fault board word) where
-    pub fault-word : (x : Refusal) → finding ≡ Fails x → head_fault board p ≡ number_of x
+  module _ {X : Type 0} {finding : Result X Refusal} (found : found_of finding ≡ word_fault board word) where
+    pub fault-word : (x : Refusal) → finding ≡ Err x → head_fault board p ≡ number_of x
     fault-word x q =
         let e : number_of x ≡ word_fault board word = sym (ap found_of q) ∙ found in
         by_word (types.row_of (format_of board) word) (λ n. absurd (omega (arith, number-some x))) ∙ sym e
 
-    module _ (q : finding ≡ Passes) {end : ℕ} (ends : end ≡ behind (format_of board) board p) where
+    module _ {u : X} (q : finding ≡ Ok u) {end : ℕ} (ends : end ≡ behind (format_of board) board p) where
       passed : word_fault board word ≡ no_fault
       passed = sym found ∙ ap found_of q
 

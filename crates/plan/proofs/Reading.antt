@@ -23,24 +23,24 @@ use Rattle.format.specs.declared.head.Head.{Head}
 use Rattle.format.proofs.Traits.{sizes}
 use Rattle.refusal.specs.Number.{number_of}
 use Rattle.refusal.specs.declared.Refusal.{Refusal}
+use Rattle.refusal.specs.declared.Refused.{Refused}
+use Rattle.std.specs.Prelude.{Result, Ok, Err}
 use Rattle.refusal.proofs.Laws.{number-some}
 use Rattle.planning.specs.Plan as planning
 use Rattle.planning.specs.Plan.{head_only, closed_only, heads_read, plan_of, hash_on, blocks_for, sum_of, plan}
 use Rattle.plan.specs.declared.Plan.{Plan}
-use Rattle.plan.specs.declared.Plan.TheVariants.{Accepted, Refused}
 use Rattle.plan.specs.declared.Heads.{Heads}
-use Rattle.plan.specs.declared.Look.{Look}
-use Rattle.plan.specs.declared.Look.TheVariants.{Passes, Fails}
+use Rattle.plan.specs.declared.Seen.{Seen}
 use Rattle.plan.specs.Planned.{planned, plan_from, IsLook, Read, closing_read, head_fault, blocks_at}
 use Rattle.plan.proofs.Blocks.{blocks-few}
 
 -- ---- before the heads, and what a refusal gives
 
-pub refused-plan : (x : Refusal) (items : ℕ) (board : List ℕ) → planned (Refused x items) ≡ plan_from board (refused (number_of x) items)
+pub refused-plan : (x : Refusal) (items : ℕ) (board : List ℕ) → planned (Err (record { refusal = x; items = items })) ≡ plan_from board (refused (number_of x) items)
 unfolding plan_of
 refused-plan x items board = refl
 
-module _ (board : List ℕ) (r : Plan) where
+module _ (board : List ℕ) (r : Result Plan Refused) where
   pub plan-large : word_limit < length board → planned r ≡ plan_from board (refused too_large 0) → planned r ≡ plan board
   unfolding plan_of heads_read if◌then◌otherwise◌
   plan-large l told = told ∙ rw (lt-ltb _ _ l)
@@ -59,12 +59,12 @@ module _ (board : List ℕ) (s : Heads) where
     same-closed : b ≡ closed_only (format_of board) board h s.place
     same-closed = e ∙ rw (length-history (format_of board) board s.items)
 
-    pub close-bad : not b ≡ true → (r : Plan) → planned r ≡ plan_from board (refused bad_closing s.items) → planned r ≡ plan_from board (closing_read board s)
+    pub close-bad : not b ≡ true → (r : Result Plan Refused) → planned r ≡ plan_from board (refused bad_closing s.items) → planned r ≡ plan_from board (closing_read board s)
     unfolding closing if◌then◌otherwise◌
     close-bad q r told = told ∙ rw (← same-closed, not-true b q, length-history (format_of board) board s.items)
 
     pub close-good : not b ≡ false → Read board s
-        → planned (Accepted s.items (index_row * s.items) s.blocks) ≡ plan_from board (closing_read board s)
+        → planned (Ok (record { items = s.items; index_words = index_row * s.items; blocks = s.blocks })) ≡ plan_from board (closing_read board s)
     unfolding closing if◌then◌otherwise◌ plan_of
     close-good q read = rw (← same-closed, not-false b q, length-history (format_of board) board s.items, read.blocks)
 
@@ -77,8 +77,8 @@ sum-snoc g [] x = omega arith
 sum-snoc g (y ∷ ys) x = let e = sum-snoc g ys x in omega arith
 
 -- a look that passes
-passed-look : (board : List ℕ) (p : ℕ) {end blocks : ℕ} {seen : Look} → seen ≡ Passes end blocks → IsLook board p seen
-    → IsLook board p (Passes end blocks)
+passed-look : (board : List ℕ) (p : ℕ) {s : Seen} {found : Result Seen Refusal} → found ≡ Ok s → IsLook board p found
+    → IsLook board p (Ok s)
 passed-look board p q look = rw q at look
 
 module _ (board : List ℕ) where
@@ -130,17 +130,17 @@ module _ (board : List ℕ) where
       small = small-on end blocks ends counted;
     }
 
-    stopped : (o : Outcome) → from s.items ≡ o → (r : Plan) → planned r ≡ plan_from board o → planned r ≡ plan board
+    stopped : (o : Outcome) → from s.items ≡ o → (r : Result Plan Refused) → planned r ≡ plan_from board o → planned r ≡ plan board
     stopped o e r told = told ∙ ap (plan_from board) (sym e) ∙ sym g.same
 
-    pub stop-ended : length board ≤ s.place → (r : Plan) → planned r ≡ plan_from board (refused truncated s.items) → planned r ≡ plan board
+    pub stop-ended : length board ≤ s.place → (r : Result Plan Refused) → planned r ≡ plan_from board (refused truncated s.items) → planned r ≡ plan board
     stop-ended l = stopped _ (from-ended (format_of board) board _ _ s.items (rw place_is at l))
 
     module _ (there : s.place < length board) {head : Head} (is : head ≡ head_of (get_or board s.place 0)) where
       kind-is : head.kind ≡ kind_of (get_or board (place_of (format_of board) board s.items) 0)
       kind-is = ap (λ (h : Head). h.kind) is ∙ rw place_is
 
-      pub stop-closing : head.kind ≡ 15 → (r : Plan) → planned r ≡ plan_from board (closing_read board s) → planned r ≡ plan board
+      pub stop-closing : head.kind ≡ 15 → (r : Result Plan Refused) → planned r ≡ plan_from board (closing_read board s) → planned r ≡ plan board
       stop-closing k r told =
           stopped _ (from-closing (format_of board) board _ _ s.items (rw place_is at there) (eq→eqb _ _ (sym kind-is ∙ k))) r (rw place_is at told)
 
@@ -148,30 +148,30 @@ module _ (board : List ℕ) where
         item-word : T (not (is_closing (get_or board (place_of (format_of board) board s.items) 0)))
         item-word = ne→neqb _ _ (λ q. head-word (kind-is ∙ q))
 
-        pub stop-full : s.items ≡ 2048 → (r : Plan) → planned r ≡ plan_from board (refused too_large s.items) → planned r ≡ plan board
+        pub stop-full : s.items ≡ 2048 → (r : Result Plan Refused) → planned r ≡ plan_from board (refused too_large s.items) → planned r ≡ plan board
         stop-full q = stopped _ (from-full (format_of board) board _ _ s.items (rw place_is at there) item-word (omega arith))
 
         module _ (few : s.items < item_limit) where
-          module _ {seen : Look} (look : IsLook board s.place seen) where
-            pub stop-refused : (x : Refusal) → seen ≡ Fails x → (r : Plan)
+          module _ {found : Result Seen Refusal} (look : IsLook board s.place found) where
+            pub stop-refused : (x : Refusal) → found ≡ Err x → (r : Result Plan Refused)
                 → planned r ≡ plan_from board (refused (number_of x) s.items) → planned r ≡ plan board
             stop-refused x q =
                 let fault : head_fault board s.place ≡ number_of x = rw q at look in
                 stopped _ (from-refused (format_of board) board _ _ s.items (rw place_is at there) item-word few (number_of x) (rw place_is at fault)
                 (λ n. absurd (omega (arith, number-some x))))
 
-            pub going_on : (end blocks : ℕ) → seen ≡ Passes end blocks
-                → Going (record { items = s.items + 1; place = end; blocks = s.blocks + blocks })
-            going_on end blocks q =
+            pub going_on : (seen : Seen) → found ≡ Ok seen
+                → Going (record { items = s.items + 1; place = seen.end; blocks = s.blocks + seen.blocks })
+            going_on seen q =
                 let (fault, behind-it, within, counted) = passed-look board s.place q look in
                 record {
-                  read = read-on end blocks few behind-it counted;
+                  read = read-on seen.end seen.blocks few behind-it counted;
                   same = g.same ∙ ap (plan_from board)
                       (from-passed (format_of board) board _ _ s.items (rw place_is at there) item-word few (rw place_is at fault) ∙ rw add-one);
                 }
 
-            pub blocks-within : (end blocks : ℕ) → seen ≡ Passes end blocks → s.blocks + blocks ≤ length board
-            blocks-within end blocks q =
+            pub blocks-within : (seen : Seen) → found ≡ Ok seen → s.blocks + seen.blocks ≤ length board
+            blocks-within seen q =
                 let (fault, behind-it, within, counted) = passed-look board s.place q look in
-                let small = small-on end blocks behind-it counted in
+                let small = small-on seen.end seen.blocks behind-it counted in
                 omega arith

@@ -20,32 +20,29 @@ use Rattle.format.specs.Layout.{head_of}
 use Rattle.format.specs.Table.{row_of, counts_of}
 use Rattle.format.specs.declared.head.Head.{Head}
 use Rattle.format.specs.declared.table.Row.{Row}
-use Rattle.format.specs.declared.table.Listing.{Listing}
-use Rattle.format.specs.declared.table.Listing.TheVariants.{Listed, Unlisted}
+use Rattle.std.specs.Prelude.{Result, Ok, Err, Option, Some, None}
 use Rattle.refusal.specs.Number.{number_of, found_of}
 use Rattle.refusal.specs.declared.Refusal.{Refusal}
-use Rattle.refusal.specs.declared.Finding.{Finding}
-use Rattle.refusal.specs.declared.Finding.TheVariants.{Passes, Fails}
 use Rattle.refusal.proofs.Laws.{number-some}
 use Rattle.plan.specs.Planned.{count_fault, word_fault, Known, known_after}
 
 module _ (board : List ℕ) (w : ℕ) where
   -- the row that the code found is the model's
-  abbrev pub IsRow : Listing → Type 0
+  abbrev pub IsRow : Option Row → Type 0
   IsRow listing = types.row_of (format_of board) w ≡ row_of (kind_of w) (code_of w) listing
 
-  pub listed-row : {head : Head} (listing : Listing) {found : Listing} → head ≡ head_of w → found ≡ listing
+  pub listed-row : {head : Head} (listing : Option Row) {found : Option Row} → head ≡ head_of w → found ≡ listing
       → row_of head.kind head.code found ≡ types.row_in head.kind head.code (types.table (format_of board))
       → IsRow listing
   unfolding types.row_of
   listed-row listing is same found = sym (rw (is, same) at found)
 
-  pub word-unlisted : IsRow Unlisted → unknown_type ≡ word_fault board w
+  pub word-unlisted : IsRow None → unknown_type ≡ word_fault board w
   unfolding count_fault
   word-unlisted q = rw q
 
   -- the count that the code tested is that of the head
-  module _ (row : Row) (is_row : IsRow (Listed row)) {head : Head} (is : head ≡ head_of w) {b : Bool}
+  module _ (row : Row) (is_row : IsRow (Some row)) {head : Head} (is : head ≡ head_of w) {b : Bool}
       (e : b ≡ types.fits (counts_of row.counts) head.count) where
     same_count : b ≡ types.fits (counts_of row.counts) (count_of w)
     same_count = e ∙ ap (λ (h : Head). types.fits (counts_of row.counts) h.count) is
@@ -95,11 +92,11 @@ module _ (board : List ℕ) (w : ℕ) (known : List ℕ) where
     hit_same = sym (set-get_or known slot 0) ∙ ap (set known slot) hit ∙ after-pass (sym hit-passes)
 
   -- and what the table tells of another
-  module _ {finding : Finding} (found : found_of finding ≡ word_fault board w) where
-    pub kept : finding ≡ Passes → set known slot w ≡ known_after board w known
+  module _ {X : Type 0} {finding : Result X Refusal} (found : found_of finding ≡ word_fault board w) where
+    pub kept : {u : X} → finding ≡ Ok u → set known slot w ≡ known_after board w known
     kept q = after-pass (sym found ∙ ap found_of q)
 
-    pub left : (x : Refusal) → finding ≡ Fails x → known ≡ known_after board w known
+    pub left : (x : Refusal) → finding ≡ Err x → known ≡ known_after board w known
     left x q = after-fail (λ n. let e : number_of x ≡ no_fault = sym (ap found_of q) ∙ found ∙ n in absurd (omega (arith, number-some x)))
 
   -- all words pass, again

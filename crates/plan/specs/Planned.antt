@@ -1,5 +1,5 @@
 -- The code's plan as the paper's numbers and values, and what is seen of a head. Paper: request (x). Assumes nothing.
-use Rattle.std.specs.Prelude.{ℕ, ◌/◌, ◌%◌, ◌^◌, ◌≤◌, ◌<◌, ◌≡◌, List, [], length, get_or, set, eqb}
+use Rattle.std.specs.Prelude.{ℕ, ◌/◌, ◌%◌, ◌^◌, ◌≤◌, ◌<◌, ◌≡◌, List, [], Result, Ok, Err, length, get_or, set, eqb}
 use Rattle.std.proofs.Math.Option.{Option, none, some}
 use Rattle.model.specs.Lists.{if◌then◌otherwise◌}
 use Rattle.model.specs.Refusal.{no_fault, unknown_type, wrong_count}
@@ -10,17 +10,18 @@ use Rattle.model.specs.History.{place_of, history}
 use Rattle.model.specs.Audit.{Outcome, item_limit, closing}
 use Rattle.format.specs.Format.{format_of, curve_number_of}
 use Rattle.refusal.specs.Number.{number_of}
+use Rattle.refusal.specs.declared.Refusal.{Refusal}
+use Rattle.refusal.specs.declared.Refused.{Refused}
 use Rattle.planning.specs.Plan as planning
 use Rattle.planning.specs.Plan.{head_only, closed_only, hash_on, blocks_for, sum_of}
 use Rattle.plan.specs.declared.Plan.{Plan}
-use Rattle.plan.specs.declared.Plan.TheVariants.{Accepted, Refused}
 use Rattle.plan.specs.declared.Heads.{Heads}
-use Rattle.plan.specs.declared.Look.{Look}
-use Rattle.plan.specs.declared.Look.TheVariants.{Passes, Fails}
+use Rattle.plan.specs.declared.Seen.{Seen}
 
-abbrev pub planned : Plan → planning.Plan
-planned (Accepted items index_words blocks) = record { number = no_fault; items = items; index_words = index_words; blocks = blocks }
-planned (Refused refusal items) = record { number = number_of refusal; items = items; index_words = 0; blocks = 0 }
+-- a refusal has every other number 0
+abbrev pub planned : Result Plan Refused → planning.Plan
+planned (Ok p) = record { number = no_fault; items = p.items; index_words = p.index_words; blocks = p.blocks }
+planned (Err r) = record { number = number_of r.refusal; items = r.items; index_words = 0; blocks = 0 }
 
 -- 5, 6 or 4, of the head at place p; 0 for none
 abbrev pub head_fault : List ℕ → ℕ → ℕ
@@ -31,10 +32,10 @@ abbrev pub blocks_at : List ℕ → ℕ → ℕ
 blocks_at board p = blocks_for (hash_on (curve_number_of board)) (hashed_length (format_of board) (count_of (get_or board p 0)))
 
 -- a look at that head: it passes, with the place behind its item, which is in the board, and the blocks of its address; or its refusal is named
-abbrev pub IsLook : List ℕ → ℕ → Look → Type 0
-IsLook board p (Passes end blocks) =
-    (head_fault board p ≡ no_fault) × (end ≡ behind (format_of board) board p) × (end ≤ length board) × (blocks ≡ blocks_at board p)
-IsLook board p (Fails refusal) = head_fault board p ≡ number_of refusal
+abbrev pub IsLook : List ℕ → ℕ → Result Seen Refusal → Type 0
+IsLook board p (Ok s) =
+    (head_fault board p ≡ no_fault) × (s.end ≡ behind (format_of board) board p) × (s.end ≤ length board) × (s.blocks ≡ blocks_at board p)
+IsLook board p (Err refusal) = head_fault board p ≡ number_of refusal
 
 -- ---- head words that are known to pass 5 and 6
 

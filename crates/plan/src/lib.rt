@@ -13,28 +13,20 @@ use format::format::Format;
 use format::head::Head;
 use format::item::Item;
 use format::limit::Limit;
-use format::table::Listing;
 use format::{board, table};
-use refusal::{Finding, Refusal};
+use refusal::{Refusal, Refused};
 
+// Items, words of their index rows, and blocks of their addresses.
 #[derive(Clone, Copy)]
-pub enum Plan {
-    // Items, words of their index rows, and blocks of their addresses.
-    Accepted {
-        items: u32,
-        index_words: u32,
-        blocks: u32,
-    },
-    // What is wrong, and the items whose heads passed.
-    Refused {
-        refusal: Refusal,
-        items: u32,
-    },
+pub struct Plan {
+    pub items: u32,
+    pub index_words: u32,
+    pub blocks: u32,
 }
 
 impl Plan {
-    // The plan of a board.
-    pub fn of(board: &[u32]) -> Self
+    // The plan of a board, or what is wrong and the items whose heads passed.
+    pub fn of(board: &[u32]) -> Result<Plan, Refused>
         ensures { planned result ≡ plan board.now }
     {
         // 1 oversize: more words than the limit
@@ -49,12 +41,11 @@ impl Plan {
     }
 }
 
-// What is seen of a head.
+// What is seen of a head: the place behind its item, and the blocks of its address.
 #[derive(Clone, Copy)]
-pub enum Look {
-    // The place behind its item, and the blocks of its address.
-    Passes { end: usize, blocks: usize },
-    Fails(Refusal),
+pub struct Seen {
+    pub end: usize,
+    pub blocks: usize,
 }
 
 // How far the heads are read: the items whose heads passed, the place behind them, and the blocks of their addresses.
@@ -75,82 +66,76 @@ fn blocks_of(curve: u32, words: usize) -> usize
     ensures { result ≡ blocks_for (hash_on curve) words }
 {
     match curve {
-        Format::SECP384R1 => (words + 36) / 32,
-        Format::SECP521R1 => (words + 36) / 32,
+        Format::SECP384R1 | Format::SECP521R1 => (words + 36) / 32,
         _ => (words + 18) / 16,
     }
 }
 
 // 5 and 6, of a head word.
-fn word_finding(board: &[u32], word: u32) -> Finding
+fn word_finding(board: &[u32], word: u32) -> Result<(), Refusal>
     ensures { found_of result ≡ word_fault board.now word }
 {
     let head = Head::of(word);
-    let listing = table::row_of(board, head.kind, head.code);
     // 5 stranger
-    let Listing::Listed(row) = listing else {
-        return Finding::Fails(Refusal::UnknownType);
+    let Some(row) = table::row_of(board, head.kind, head.code) else {
+        return Err(Refusal::UnknownType);
     };
     // 6 misfit
-    let counts = row.counts;
-    if !counts.fits(head.count) {
-        return Finding::Fails(Refusal::WrongCount);
+    if !row.counts.fits(head.count) {
+        return Err(Refusal::WrongCount);
     }
-    Finding::Passes
+    Ok(())
 }
 
 // The same, and the word is kept where it passes: most heads of a type are one word, for which the table is then asked once.
-fn known_finding(board: &[u32], word: u32, known: &mut [u32]) -> Finding
+fn known_finding(board: &[u32], word: u32, known: &mut [u32]) -> Result<(), Refusal>
     requires { Known board.now known.old }
     ensures answer { found_of result ≡ word_fault board.now word }
     ensures known { known.new ≡ known_after board.now word known.old }
 {
     let slot = ((word >> 16) % 64) as usize;
     if known[slot] == word {
-        return Finding::Passes;
+        return Ok(());
     }
-    let finding = word_finding(board, word);
-    if let Finding::Passes = finding {
-        known[slot] = word;
-    }
-    finding
+    word_finding(board, word)?;
+    known[slot] = word;
+    Ok(())
 }
 
 // Looks at the head at a place: 5, 6, 4.
-fn look_at(board: &[u32], format: Format, place: usize, known: &mut [u32]) -> Look
+fn look_at(board: &[u32], format: Format, place: usize, known: &mut [u32]) -> Result<Seen, Refusal>
     requires place_in_bounds { (place < length board.now) × (length board.now ≤ word_limit) }
     requires format_value { (format ≡ widths_of board.now) × (Known board.now known.old) }
     ensures answer { IsLook board.now place result }
     ensures known { known.new ≡ known_after board.now (get_or board.now place 0) known.old }
 {
     let word = board[place];
-    let finding = known_finding(board, word, known);
-    if let Finding::Fails(refusal) = finding {
-        return Look::Fails(refusal);
-    }
+    known_finding(board, word, known)?;
     // 4 torn: the item runs past the end
     let hashed = 1 + Head::of(word).count + 2 * format.address + Item::TIME;
     let end = place + hashed + format.signature + format.address;
     if board.len() < end {
-        return Look::Fails(Refusal::Truncated);
+        return Err(Refusal::Truncated);
     }
-    let blocks = blocks_of(format.curve, hashed);
-    Look::Passes { end, blocks }
+    Ok(Seen {
+        end,
+        blocks: blocks_of(format.curve, hashed),
+    })
 }
 
 // A refusal after so many items.
-fn refused(refusal: Refusal, items: usize) -> Plan
+fn refused(refusal: Refusal, items: usize) -> Result<Plan, Refused>
     requires { items ≤ item_limit }
     ensures { (board : List ℕ) → planned result ≡ plan_from board (refused (number_of refusal) items) }
 {
-    Plan::Refused {
+    Err(Refused {
         refusal,
         items: items as u32,
-    }
+    })
 }
 
 // The plan at the closing word.
-fn close(board: &[u32], s: Heads) -> Plan
+fn close(board: &[u32], s: Heads) -> Result<Plan, Refused>
     requires { (Read board.now s) × (s.place < length board.now) × (length board.now ≤ word_limit) }
     ensures { planned result ≡ plan_from board.now (closing_read board.now s) }
 {
@@ -158,15 +143,15 @@ fn close(board: &[u32], s: Heads) -> Plan
     if !board::is_closed(board, s.items, s.place) {
         return refused(Refusal::BadClosing, s.items);
     }
-    Plan::Accepted {
+    Ok(Plan {
         items: s.items as u32,
         index_words: (Limit::INDEX_ROW * s.items) as u32,
         blocks: s.blocks as u32,
-    }
+    })
 }
 
 // Reads the heads up to the first refusal or the closing word.
-fn read(board: &[u32]) -> Plan
+fn read(board: &[u32]) -> Result<Plan, Refused>
     requires { (length board.now ≤ word_limit) × (is_empty board.now ≡ false) }
     ensures { planned result ≡ plan board.now }
 {
@@ -190,14 +175,13 @@ fn read(board: &[u32]) -> Plan
         if s.items == Limit::ITEMS {
             return refused(Refusal::TooLarge, s.items);
         }
-        let seen = look_at(board, format, place, &mut known);
-        match seen {
-            Look::Fails(refusal) => return refused(refusal, s.items),
-            Look::Passes { end, blocks } => {
+        match look_at(board, format, place, &mut known) {
+            Err(refusal) => return refused(refusal, s.items),
+            Ok(seen) => {
                 s = Heads {
                     items: s.items + 1,
-                    place: end,
-                    blocks: s.blocks + blocks,
+                    place: seen.end,
+                    blocks: s.blocks + seen.blocks,
                 };
             }
         }

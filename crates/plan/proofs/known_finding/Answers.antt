@@ -9,16 +9,9 @@ returns-then-known-slot c =
       known = hit_same x.board.now x.word x.known.now c.requires c.if-known-slot.true;
     }
 
-pub returns-in-Passes : goal.returns-in-Passes
-returns-in-Passes c =
-    let x = c.args in record {
-      answer = c.word_finding-finding.ensures;
-      known = kept x.board.now x.word x.known.now c.word_finding-finding.ensures c.in-Passes.is;
-    }
+pub returns-in_err-word_finding-clause-known : goal.returns-in_err-word_finding-clause-known
+returns-in_err-word_finding-clause-known c =
+    let x = c.args in left x.board.now x.word x.known.now c.word_finding.ensures _ c.in_err-word_finding.was
 
-pub returns-in_default : goal.returns-in_default
-returns-in_default c =
-    let x = c.args in record {
-      answer = c.word_finding-finding.ensures;
-      known = left x.board.now x.word x.known.now c.word_finding-finding.ensures _ c.in_default.is;
-    }
+pub returns-clause-known : goal.returns-clause-known
+returns-clause-known c = let x = c.args in kept x.board.now x.word x.known.now c.word_finding.ensures c.in_ok-word_finding.was

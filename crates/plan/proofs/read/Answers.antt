@@ -32,36 +32,36 @@ returns-then-s-eq-ITEMS c =
     stop-full board c.loop-format.invariant.0 c.if-board-place.false c.of.ensures c.if-of-eq-CLOSING.false c.if-s-eq-ITEMS.true
     c.refused-then-s-eq-ITEMS.result (c.refused-then-s-eq-ITEMS.ensures board)
 
-pub look_at-seen-requires : goal.look_at-seen-requires
-look_at-seen-requires c =
+pub look_at-requires : goal.look_at-requires
+look_at-requires c =
     record {
       place_in_bounds = (c.if-board-place.false, c.requires.0);
       format_value = (c.of-format.ensures, c.loop-format.invariant.1);
     }
 
-pub refused-requires-in-Fails : goal.refused-requires-in-Fails
-refused-requires-in-Fails c = c.loop-format.invariant.0.read.few
+pub refused-requires-in-Err : goal.refused-requires-in-Err
+refused-requires-in-Err c = c.loop-format.invariant.0.read.few
 
-pub returns-in-Fails : goal.returns-in-Fails
-returns-in-Fails c =
+pub returns-in-Err : goal.returns-in-Err
+returns-in-Err c =
     let board = c.args.board.now in
     let g = c.loop-format.invariant.0 in
     let few = g.read.few in
     let more = c.if-s-eq-ITEMS.false in
     stop-refused board g c.if-board-place.false c.of.ensures c.if-of-eq-CLOSING.false (omega arith)
-    c.look_at-seen.ensures.answer _ c.in-Fails.is c.refused-in-Fails.result (c.refused-in-Fails.ensures board)
+    c.look_at.ensures.answer _ c.in-Err.is c.refused-in-Err.result (c.refused-in-Err.ensures board)
 
 pub overflow_add-s : goal.overflow_add-s
 overflow_add-s c = let few = c.loop-format.invariant.0.read.few in omega arith
 
-pub overflow_add-s-in-Passes : goal.overflow_add-s-in-Passes
-overflow_add-s-in-Passes c =
+pub overflow_add-s-in-Ok : goal.overflow_add-s-in-Ok
+overflow_add-s-in-Ok c =
     let board = c.args.board.now in
     let g = c.loop-format.invariant.0 in
     let few = g.read.few in
     let more = c.if-s-eq-ITEMS.false in
     let within = blocks-within board g c.if-board-place.false c.of.ensures c.if-of-eq-CLOSING.false (omega arith)
-    c.look_at-seen.ensures.answer _ _ c.in-Passes.is in
+    c.look_at.ensures.answer _ c.in-Ok.is in
     let short = c.requires.0 in
     omega arith
 
@@ -78,6 +78,6 @@ loop-format-preserved c =
     let few = g.read.few in
     let more = c.if-s-eq-ITEMS.false in (
       going_on board g c.if-board-place.false c.of.ensures c.if-of-eq-CLOSING.false (omega arith)
-          c.look_at-seen.ensures.answer _ _ c.in-Passes.is,
-      known-after board _ _ c.loop-format.invariant.1 c.look_at-seen.ensures.known,
+          c.look_at.ensures.answer _ c.in-Ok.is,
+      known-after board _ _ c.loop-format.invariant.1 c.look_at.ensures.known,
     )
