@@ -1,6 +1,6 @@
 -- A search may begin at any item before which no item passes its test: so the children of an item are sought from that item on.
 -- Assumes nothing.
-use Prim.Native.Nat.{ℕ, zero, suc, ◌≤◌, ◌<◌}
+use Prim.Native.Nat.{ℕ, zero, suc, max, ◌≤◌, ◌<◌}
 use native.Mathlib.Nat.{not-suc-le-zero}
 use native.Mathlib.Numerals.{add-one}
 use native.Mathlib.Decide.{dec_le}
@@ -10,8 +10,8 @@ use mathlib.Core.Logic.{by_cases}
 use mathlib.Core.Bool.{Bool, false, and-false}
 use mathlib.Core.List.{List}
 use lib.Dec.{eqb}
-use borrow.Author.Tests.{eq-eqb, ne_eqb}
-use Rattle.model.specs.Lists.{if◌then◌otherwise◌, any}
+use borrow.Author.Tests.{ne_eqb}
+use Rattle.model.specs.Lists.{any}
 use Rattle.model.specs.Item.{code}
 use Rattle.model.specs.History.{Entry, entry, child_of}
 use Rattle.index.specs.Kept.{before, Kept}
@@ -31,17 +31,8 @@ module _ (board : List ℕ) (n : ℕ) (p : Entry → Bool) where
       (λ l. any-ends board n p (suc k) (omega arith) ∙ sym (any-ends board n p (suc (suc k)) (omega arith)))
 
 -- where the search begins
-module _ (parent r : ℕ) (told : r ≡ (if eqb parent 0 then 1 otherwise parent)) where
-  begin-first : parent ≡ 0 → r ≡ 1
-  unfolding if◌then◌otherwise◌
-  begin-first z = told ∙ rw (eq-eqb parent 0 z)
-
-  begin-later : 1 ≤ parent → r ≡ parent
-  unfolding if◌then◌otherwise◌
-  begin-later l = told ∙ rw (ne_eqb parent 0 (λ z. omega arith))
-
-  pub begin-some : 1 ≤ r
-  begin-some = by_cases (dec_le 1 parent) (λ l. omega (arith, begin-later l)) (λ l. omega (arith, begin-first (omega arith)))
+pub begin-some : (parent : ℕ) → 1 ≤ max parent 1
+begin-some parent = omega arith
 
 module _ {board index : List ℕ} {n : ℕ} (kept : Kept board index n) (parent : ℕ) (q : ℕ → Bool) where
   -- an item before number parent has another parent
@@ -51,9 +42,6 @@ module _ {board index : List ℕ} {n : ℕ} (kept : Kept board index n) (parent 
       let other : eqb e.parent parent ≡ false = ne_eqb e.parent parent (λ same. omega (arith, (entry-parent-bound kept k s l).1)) in
       rw other (and-false (q (code e.item)))
 
-  pub begin-all : (r : ℕ) → r ≡ (if eqb parent 0 then 1 otherwise parent)
-      → any (child_of parent q) (before board n) ≡ any (child_of parent q) (from board n r)
-  begin-all r told =
-      by_cases (dec_le 1 parent)
-      (λ l. rw (begin-later parent r told l) (any-from board n (child_of parent q) parent l before_parent))
-      (λ l. rw (begin-first parent r told (omega arith)))
+  pub begin-all : any (child_of parent q) (before board n) ≡ any (child_of parent q) (from board n (max parent 1))
+  begin-all =
+      any-from board n (child_of parent q) (max parent 1) (begin-some parent) (λ j s l m. before_parent j s (omega arith) m)

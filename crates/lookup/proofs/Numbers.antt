@@ -1,15 +1,18 @@
 -- The numbers of the parent and of the session of an item that is judged, from what the code reads of it. Assumes nothing.
-use Prim.Native.Nat.{ℕ, ◌+◌, ◌≤◌}
+use Prim.Native.Nat.{ℕ, ◌+◌, ◌-◌, ◌≤◌}
 use native.Mathlib.Omega.{arith}
 use mathlib.Core.Path.{◌≡◌, sym, ap, ◌∙◌}
 use mathlib.Core.Logic.{◌≢◌}
 use mathlib.Core.Bool.{Bool, false}
 use mathlib.Core.List.{List}
+use lib.ListN.{length, take, drop, length-drop}
+use lib.Seq.{length-take-le}
 use lib.Dec.{eqb, leb}
 use borrow.Author.Tests.{eq-eqb, ne_eqb}
+use Rattle.model.specs.Lists.{part}
 use Rattle.model.specs.Codes.{genesis_type, session_type, track_type}
 use Rattle.model.specs.Item as model
-use Rattle.model.specs.Item.{item_at, code}
+use Rattle.model.specs.Item.{item_at, item_length, code}
 use Rattle.model.specs.History.{History, Entry, entry, first, parent_number, session_number}
 use Rattle.model.proofs.Numbers.{entry-none}
 use Rattle.model.proofs.Entries.{parent-genesis, parent-first, parent-bound, session-genesis, session-own, session-up}
@@ -23,7 +26,16 @@ use Rattle.index.specs.declared.Known.{Known}
 use Rattle.index.specs.Kept.{before}
 use Rattle.index.specs.Known.{IsKnown}
 use Rattle.index.proofs.Reading.{known-session}
-use Rattle.lookup.specs.Search.{address_in, addressed}
+use Rattle.lookup.specs.Search.{addressed}
+
+-- the words between two places of a board, an address
+pub record Sliced (board : List ℕ) (from to : ℕ) : Type 0 where
+  pub start : from ≤ to
+  pub within : to ≤ length board
+  pub width : to - from ≡ (format_of board).address
+
+pub sliced-length : {board : List ℕ} {from to : ℕ} → Sliced board from to → length (take (to - from) (drop from board)) ≡ (format_of board).address
+sliced-length {board} {from} {to} s = omega (arith, length-take-le (to - from) (drop from board) (omega (arith, length-drop from board, s.start, s.within)), s.width)
 
 module _ (board : List ℕ) (n : ℕ) (item : Item) (same : item ≡ item_of board item.place) where
   abbrev h : History
@@ -44,11 +56,21 @@ module _ (board : List ℕ) (n : ℕ) (item : Item) (same : item ≡ item_of boa
   parent-own q =
       omega (arith, parent-genesis h i (rw (← code_same) (eq-eqb item.head.code genesis_type q)), length-history (format_of board) board n)
 
+  -- its parent's address stands where the code reads it
+  pub parent-slice : item.end ≤ length board → Sliced board item.parent item.previous
+  unfolding item_of item_length
+  parent-slice l =
+      let end = rw same at l in
+      rw same (record { start = omega arith; within = omega arith; width = omega arith })
+
   pub parent-sought : item.head.code ≢ genesis_type → {m : Bool} {r : ℕ} → m ≡ leb item.head.code track_type
-      → r ≡ first (addressed m (address_in board board item.parent)) h → r ≡ parent_number h i
+      → r ≡ first (addressed m (take (item.previous - item.parent) (drop item.parent board))) h → r ≡ parent_number h i
+  unfolding part item_of
   parent-sought q {m} {r} e f =
-      let words : address_in board board item.parent ≡ i.parent = ap (λ (x : Item). address_in board board x.parent) same ∙ parent_is board item.place in
-      f ∙ rw (e, code_same, words, parent-first h i (later q))
+      let width : item.previous - item.parent ≡ (format_of board).address = rw same (omega arith) in
+      let words : part item.parent (format_of board).address board ≡ i.parent =
+      ap (λ (x : Item). part x.parent (format_of board).address board) same ∙ parent_is board item.place in
+      f ∙ rw (width, e, code_same, words, parent-first h i (later q))
 
   -- ---- the session, from the parent's number
 

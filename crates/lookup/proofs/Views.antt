@@ -1,12 +1,13 @@
 -- The code's tests of an item, by its view, are the model's tests of the entry that it stands for. Assumes nothing.
 use Prim.Native.Nat.{ℕ, ◌+◌, ◌-◌, ◌≤◌}
-use native.Mathlib.Nat.{add-zero}
+use native.Mathlib.Nat.{add-zero, le_refl}
 use native.Mathlib.Omega.{arith}
 use mathlib.Core.Path.{◌≡◌, sym, ap, ◌∙◌}
 use mathlib.Core.Logic.{◌≢◌}
 use mathlib.Core.Bool.{Bool, true, false, not, and-true, and-false, beq}
 use mathlib.Core.List.{List}
-use lib.ListN.{get_or}
+use lib.ListN.{length, get_or, take}
+use lib.Seq.{take_all}
 use lib.Dec.{eqb}
 use borrow.Author.Tests.{eq-eqb, ne_eqb, not-true, not-false}
 use Rattle.model.specs.Lists.{if◌then◌otherwise◌, part}
@@ -23,7 +24,7 @@ use Rattle.index.specs.Kept.{before, Kept}
 use Rattle.index.specs.Known.{IsKnown}
 use Rattle.index.proofs.Counts.{has_words, entry-words}
 use Rattle.index.proofs.Reading.{known-item, known-code, known-main, known-parent, known-session, known-address, known-word}
-use Rattle.lookup.specs.Search.{entry_from, address_in, addressed}
+use Rattle.lookup.specs.Search.{entry_from, addressed}
 
 -- the view of an entry stands for it
 pub from-known : {board : List ℕ} {e : Entry} {c : Known} → IsKnown board e c → entry_from board c ≡ e
@@ -72,10 +73,12 @@ module _ {board : List ℕ} {e : Entry} {c : Known} (is : IsKnown board e c) whe
   pub known-width : c.item.end - c.item.address ≡ (format_of board).address
   known-width = address-width board e.place (known-item is)
 
-  pub addressed-same : (m : Bool) (from : List ℕ) (at : ℕ) {r : Bool} → not (beq (eqb c.item.head.kind main_kind) m) ≡ false
-      → let width = c.item.end - c.item.address in
-      r ≡ same_words (part c.item.address width board) (part at width from) → r ≡ addressed m (address_in board from at) e
-  addressed-same m from at q s = s ∙ rw (known-width, ← known-main is, not-false (beq (eqb c.item.head.kind main_kind) m) q, known-address is)
+  pub addressed-same : (m : Bool) (address : List ℕ) → length address ≡ (format_of board).address → not (beq (eqb c.item.head.kind main_kind) m) ≡ false
+      → {r : Bool} → r ≡ same_words (part c.item.address (length address) board) (part 0 (length address) address) → r ≡ addressed m address e
+  unfolding part
+  addressed-same m address width q s =
+      let all : take (length address) address ≡ address = take_all (length address) address (le_refl (length address)) in
+      s ∙ rw (all, width, ← known-main is, not-false (beq (eqb c.item.head.kind main_kind) m) q, known-address is)
 
   pub session-other : (voter : ℕ) → c.item.head.code ≢ session_type → false ≡ session_of voter e
   session-other voter n = rw (← known-code is, ne_eqb c.item.head.code session_type n)

@@ -1,6 +1,6 @@
 -- A search by a chain: from the last item of a bucket to the one behind it, and so on. Items of other buckets do not pass the test of the
 -- search, so they change neither the last that passes nor the first. Assumes nothing.
-use Prim.Native.Nat.{ℕ, zero, suc, ◌+◌, ◌-◌, ◌%◌, ◌≤◌, ◌<◌}
+use Prim.Native.Nat.{ℕ, zero, suc, ◌+◌, ◌-◌, ◌≤◌, ◌<◌}
 use native.Mathlib.Omega.{arith}
 use native.Mathlib.Nat.{le_refl, not-suc-le-zero}
 use mathlib.Core.Path.{◌≡◌, refl, sym, ap, ◌∙◌}
@@ -20,10 +20,9 @@ use Rattle.chains.specs.Chain.{buckets, chain, last_in}
 use Rattle.chains.proofs.Laws.{last_in-here, last_in-past, last_in-le, last_in-self, last_in-own, chain-last, chain-behind}
 use Rattle.index.specs.Kept.{before, item_after}
 use Rattle.index.proofs.Items.{entry-made}
-use Rattle.lookup.specs.Search.{address_in, addressed}
+use Rattle.lookup.specs.Search.{addressed}
 use Rattle.lookup.specs.Buckets.{of_address, of_voter, by_address, by_voter}
 use Rattle.lookup.proofs.Steps.{up_to, to-all, last_step, first_step, first_ends}
-use Rattle.lookup.proofs.Buckets.{first_word}
 
 -- ---- where the walk goes
 
@@ -147,13 +146,13 @@ module _ (board : List ℕ) (n : ℕ) (p : Entry → Bool) where
 
 -- ---- an item that passes is in the bucket
 
-pub addressed-only : (board from : List ℕ) (n : ℕ) (m : Bool) (at k : ℕ) → 1 ≤ k → k ≤ n
-    → addressed m (address_in board from at) (entry (before board n) k) ≡ true → by_address board k ≡ get_or from at 0 % buckets
+pub addressed-only : (board address : List ℕ) (n : ℕ) (m : Bool) (k : ℕ) → 1 ≤ k → k ≤ n
+    → addressed m address (entry (before board n) k) ≡ true → by_address board k ≡ of_address address
 unfolding by_address entry_of
-addressed-only board from n m at zero s l q = absurd (not-suc-le-zero s)
-addressed-only board from n m at (suc k) s l q =
+addressed-only board address n m zero s l q = absurd (not-suc-le-zero s)
+addressed-only board address n m (suc k) s l q =
     let same = (simp facts at (passes (rw (entry-made board n k l) at q))).1 in
-    ap of_address ((same-iff (item_after board k).address (address_in board from at)).0 same) ∙ ap (λ (w : ℕ). w % buckets) (first_word board from at)
+    ap of_address ((same-iff (item_after board k).address address).0 same)
 
 pub session-only : (board : List ℕ) (n voter k : ℕ) → 1 ≤ k → k ≤ n → session_of voter (entry (before board n) k) ≡ true → by_voter board k ≡ of_voter voter
 unfolding by_voter entry_of if◌then◌otherwise◌

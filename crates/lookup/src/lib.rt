@@ -3,186 +3,127 @@
 // the items of one bucket alone, by their chain tables.
 #![tactic(auto)]
 
-ghost use Rattle.std.specs.Prelude.{◌≡◌, ◌+◌, ◌-◌, ◌≤◌, length, eqb};
+ghost use Rattle.std.specs.Prelude.{◌≡◌, ◌-◌, ◌≤◌, length, eqb};
 ghost use Rattle.model.specs.Lists.{if◌then◌otherwise◌, any};
 ghost use Rattle.model.specs.Words.{main_kind};
-ghost use Rattle.model.specs.Codes.{session_type};
 ghost use Rattle.model.specs.History.{entry, first, last, parent_number, session_number, child_of};
 ghost use Rattle.model.specs.Phase.{session_of};
 ghost use Rattle.format.specs.Format.{format_of};
 ghost use Rattle.format.specs.Layout.{item_of, item_on};
-ghost use Rattle.index.specs.Kept.{before, Kept};
-ghost use Rattle.index.specs.Known.{IsKnown};
-ghost use Rattle.lookup.specs.Search.{entry_from, address_on, addressed, main_entry};
-ghost use Rattle.lookup.specs.Buckets.{parent_chain, session_chain};
+ghost use Rattle.index.specs.Passed.{history_of};
+ghost use Rattle.lookup.specs.Search.{addressed, main_entry};
 
+use crate::chained::{Parents, Sessions};
 use format::head::Head;
 use format::item::Item;
 use index::Known;
+use index::passed::Passed;
 
 pub mod bucket;
+pub mod chained;
 
-// Whether the item is of a kind, main or hidden, and has the address that stands at a place of the board.
-fn is_addressed(board: &[u32], e: Known, main: bool, at: usize) -> bool
-    requires { (IsKnown board.now (entry_from board.now e) e) × (at + (format_of board.now).address ≤ length board.now) }
-    ensures { result ≡ addressed main (address_on board.now at) (entry_from board.now e) }
+// Whether item number k is of a kind, main or hidden, and has an address.
+fn is_addressed(passed: &Passed, k: usize, main: bool, address: &[u32]) -> bool
+    requires { (1 ≤ k) × (k ≤ passed.now.count) × (length address.now ≡ (format_of passed.now.board.now).address) }
+    ensures { result ≡ addressed main address.now (entry (history_of passed.now) k) }
 {
-    if (e.item.head.kind == Head::MAIN) != main {
+    let item = passed.entry(k).item;
+    if (item.head.kind == Head::MAIN) != main {
         return false;
     }
-    let width = e.item.end - e.item.address;
-    words::same_words(board, e.item.address, board, at, width)
+    words::same_words(passed.board, item.address, address, 0, address.len())
 }
 
-// Whether item number k is of a kind, main or hidden, and has the address that stands at a place of the board.
-fn is_at(board: &[u32], index: &[u32], count: usize, k: usize, main: bool, at: usize) -> bool
-    requires kept { Kept board.now index.now count }
-    requires le_k { (1 ≤ k) × (k ≤ count) × (at + (format_of board.now).address ≤ length board.now) }
-    ensures { result ≡ addressed main (address_on board.now at) (entry (before board.now count) k) }
+// The number of the first item, main or hidden, with an address; 0 where there is none. The chain of its bucket goes from the latest item
+// back, so it is the last one found.
+pub fn first_addressed(parents: &Parents, main: bool, address: &[u32]) -> usize
+    requires { length address.now ≡ (format_of parents.now.passed.board.now).address }
+    ensures { result ≡ first (addressed main address.now) (history_of parents.now.passed) }
 {
-    let e = index::entry(board, index, count, k);
-    is_addressed(board, e, main, at)
-}
-
-// The number of the first item, main or hidden, with the address that stands at a place of the board; 0 where there is none. The chain
-// of its bucket goes from the latest item back, so it is the last one found.
-fn first_addressed(
-    board: &[u32],
-    index: &[u32],
-    parents: &[u32],
-    count: usize,
-    main: bool,
-    at: usize,
-) -> usize
-    requires kept { (Kept board.now index.now count) × (parents.now ≡ parent_chain board.now count) }
-    requires board_in_bounds { at + (format_of board.now).address ≤ length board.now }
-    ensures { result ≡ first (addressed main (address_on board.now at)) (before board.now count) }
-{
-    let mut number = chains::last(parents, bucket::of_address(board[at]));
+    let passed = parents.passed;
+    let mut number = chains::last(parents.chain, bucket::of_address(address[0]));
     let mut found = 0;
     while number != 0 {
-        if is_at(board, index, count, number, main, at) {
+        if is_addressed(&passed, number, main, address) {
             found = number;
         }
-        number = chains::behind(parents, number);
+        number = chains::behind(parents.chain, number);
     }
     found
 }
 
-// The number of the parent of the item at a place, after the first count items: its own for genesis, 0 where it is not found.
-pub fn parent_number(
-    board: &[u32],
-    index: &[u32],
-    parents: &[u32],
-    count: usize,
-    item: Item,
-) -> usize
-    requires kept { (Kept board.now index.now count) × (parents.now ≡ parent_chain board.now count) }
-    requires item_value { (item ≡ item_of board.now item.place) × (item.end ≤ length board.now) }
-    ensures { result ≡ parent_number (before board.now count) (item_on board.now item.place) }
+// The number of the parent of the item at a place, after the items that passed: its own for genesis, 0 where it is not found.
+pub fn parent_number(parents: &Parents, item: Item) -> usize
+    requires { (item ≡ item_of parents.now.passed.board.now item.place) × (item.end ≤ length parents.now.passed.board.now) }
+    ensures { result ≡ parent_number (history_of parents.now.passed) (item_on parents.now.passed.board.now item.place) }
 {
     let code = item.head.code;
     if code == Head::GENESIS {
-        return count + 1;
+        return parents.passed.count + 1;
     }
-    let main = code <= Head::TRACK;
-    first_addressed(board, index, parents, count, main, item.parent)
+    let address = &parents.passed.board[item.parent..item.previous];
+    first_addressed(parents, code <= Head::TRACK, address)
 }
 
 // The number of its session, from that of its parent: its own for a session, 0 where it has none.
-pub fn session_number(
-    board: &[u32],
-    index: &[u32],
-    count: usize,
-    item: Item,
-    parent: usize,
-) -> usize
-    requires kept { Kept board.now index.now count }
-    requires item_value { (item ≡ item_of board.now item.place) × (item.end ≤ length board.now) }
-    requires parent_value { parent ≡ parent_number (before board.now count) (item_on board.now item.place) }
-    ensures { result ≡ session_number (before board.now count) (item_on board.now item.place) }
+pub fn session_number(passed: &Passed, item: Item, parent: usize) -> usize
+    requires item_value { (item ≡ item_of passed.now.board.now item.place) × (item.end ≤ length passed.now.board.now) }
+    requires parent_value { parent ≡ parent_number (history_of passed.now) (item_on passed.now.board.now item.place) }
+    ensures { result ≡ session_number (history_of passed.now) (item_on passed.now.board.now item.place) }
 {
     let code = item.head.code;
     if code == Head::GENESIS {
         return 0;
     }
     if code == Head::SESSION {
-        return count + 1;
+        return passed.count + 1;
     }
     if parent == 0 {
         return 0;
     }
-    index::entry(board, index, count, parent).session
+    passed.entry(parent).session
 }
 
-// Whether the item is a session of the voter.
-fn is_session_of(board: &[u32], e: Known, voter: u32) -> bool
-    requires known { IsKnown board.now (entry_from board.now e) e }
-    requires le_count { e.item.head.code ≡ session_type → 1 ≤ e.item.head.count }
-    ensures { result ≡ session_of voter (entry_from board.now e) }
+// Whether item number k is a session of a voter.
+fn is_session_of(passed: &Passed, k: usize, voter: u32) -> bool
+    requires { (1 ≤ k) × (k ≤ passed.now.count) }
+    ensures { result ≡ session_of voter (entry (history_of passed.now) k) }
 {
-    if e.item.head.code != Head::SESSION {
-        return false;
-    }
-    let at = e.item.content;
-    board[at] == voter
+    let item = passed.entry(k).item;
+    item.head.code == Head::SESSION && passed.board[item.content] == voter
 }
 
 // The number of the latest session of a voter; 0 where there is none.
-pub fn latest_session(
-    board: &[u32],
-    index: &[u32],
-    sessions: &[u32],
-    count: usize,
-    voter: u32,
-) -> usize
-    requires { (Kept board.now index.now count) × (sessions.now ≡ session_chain board.now count) }
-    ensures { result ≡ last (session_of voter) (before board.now count) }
+pub fn latest_session(sessions: &Sessions, voter: u32) -> usize
+    ensures { result ≡ last (session_of voter) (history_of sessions.now.passed) }
 {
-    let mut k = chains::last(sessions, bucket::of_voter(voter));
+    let passed = sessions.passed;
+    let mut k = chains::last(sessions.chain, bucket::of_voter(voter));
     while k != 0 {
-        let e = index::entry(board, index, count, k);
-        if is_session_of(board, e, voter) {
+        if is_session_of(&passed, k, voter) {
             return k;
         }
-        k = chains::behind(sessions, k);
+        k = chains::behind(sessions.chain, k);
     }
     0
 }
 
 // Whether item number k stands under a parent and is of a type. Its head is read only where the parent is that one.
-fn is_child(board: &[u32], index: &[u32], count: usize, k: usize, parent: usize, code: u32) -> bool
-    requires kept { Kept board.now index.now count }
-    requires le_k { (1 ≤ k) × (k ≤ count) }
-    ensures { result ≡ child_of parent (λ c. eqb c code) (entry (before board.now count) k) }
+fn is_child(passed: &Passed, k: usize, parent: usize, code: u32) -> bool
+    requires { (1 ≤ k) × (k ≤ passed.now.count) }
+    ensures { result ≡ child_of parent (λ c. eqb c code) (entry (history_of passed.now) k) }
 {
-    if index::parent(board, index, count, k) != parent {
-        return false;
-    }
-    index::entry(board, index, count, k).item.head.code == code
+    passed.parent(k) == parent && passed.entry(k).item.head.code == code
 }
 
-// The number from which on the children of a parent are sought: no item stands before its parent, and item numbers begin with 1.
-fn first_child(parent: usize) -> usize
-    ensures { result ≡ (if eqb parent 0 then 1 otherwise parent) }
+// Whether an item of a type stands under a parent. No item stands before its parent, and item numbers begin with 1.
+pub fn has_child(passed: &Passed, parent: usize, code: u32) -> bool
+    ensures { result ≡ any (child_of parent (λ c. eqb c code)) (history_of passed.now) }
 {
-    if parent == 0 {
-        return 1;
-    }
-    parent
-}
-
-// Whether an item of a type stands under a parent.
-pub fn has_child(board: &[u32], index: &[u32], count: usize, parent: usize, code: u32) -> bool
-    requires { Kept board.now index.now count }
-    ensures { result ≡ any (child_of parent (λ c. eqb c code)) (before board.now count) }
-{
-    let mut child = first_child(parent);
-    while child <= count {
-        if is_child(board, index, count, child, parent, code) {
+    for child in parent.max(1)..=passed.count {
+        if is_child(passed, child, parent, code) {
             return true;
         }
-        child += 1;
     }
     false
 }
@@ -193,31 +134,25 @@ fn left_after(e: Known, left: usize) -> usize
     ensures { result ≡ (if eqb e.item.head.kind main_kind then left - 1 otherwise left) }
 {
     if e.item.head.kind == Head::MAIN {
-        return left - 1;
+        left - 1
+    } else {
+        left
     }
-    left
 }
 
 // The item number of a main number; 0 where there is none. No item before that number can have it, so the search begins there.
-pub fn main_entry(board: &[u32], index: &[u32], count: usize, number: usize) -> usize
-    requires { Kept board.now index.now count }
-    ensures { result ≡ main_entry (before board.now count) number }
+pub fn main_entry(passed: &Passed, number: usize) -> usize
+    ensures { result ≡ main_entry (history_of passed.now) number }
 {
-    if number == 0 {
+    if number == 0 || passed.count < number {
         return 0;
     }
-    if count < number {
-        return 0;
-    }
-    let mut left = number - index::mains_before(board, index, count, number);
-    let mut k = number;
-    while k <= count {
-        let e = index::entry(board, index, count, k);
-        left = left_after(e, left);
+    let mut left = number - passed.mains_before(number);
+    for k in number..=passed.count {
+        left = left_after(passed.entry(k), left);
         if left == 0 {
             return k;
         }
-        k += 1;
     }
     0
 }

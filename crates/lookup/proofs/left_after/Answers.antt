@@ -7,6 +7,6 @@ pub returns-then-e-eq-MAIN : goal.returns-then-e-eq-MAIN
 unfolding if◌then◌otherwise◌
 returns-then-e-eq-MAIN c = search eq-eqb
 
-pub returns : goal.returns
+pub returns-else-e-eq-MAIN : goal.returns-else-e-eq-MAIN
 unfolding if◌then◌otherwise◌
-returns c = search ne_eqb
+returns-else-e-eq-MAIN c = search ne_eqb

@@ -16,10 +16,7 @@ returns-then-parent-eq0 c =
 
 pub entry-requires : goal.entry-requires
 entry-requires c =
-    record {
-      kept = c.requires.kept;
-      le_k = (search rules, parent-few _ _ _ c.requires.item_value.0 c.if-code-eq-GENESIS.false _ c.requires.parent_value);
-    }
+    (search rules, parent-few _ _ _ c.requires.item_value.0 c.if-code-eq-GENESIS.false _ c.requires.parent_value)
 
 pub returns : goal.returns
 returns c =
