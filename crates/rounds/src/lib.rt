@@ -7,16 +7,17 @@ ghost use Rattle.std.specs.Int.Bits.{bit_or};
 ghost use Rattle.model.specs.Lists.{any};
 ghost use Rattle.model.specs.Phase.{rounds, is_open};
 ghost use Rattle.format.specs.Layout.{item_on};
-ghost use Rattle.index.specs.Kept.{before, Kept};
+ghost use Rattle.index.specs.Passed.{history_of};
+ghost use Rattle.state.specs.Reached.{history_behind};
 ghost use Rattle.state.specs.Standing.{enabled_word};
-ghost use Rattle.state.specs.Stands.{Stands};
 ghost use Rattle.rounds.specs.Open.{IsRound, InForce, open_under, word_under};
 
 use format::format::Format;
 use format::item::Item;
 use format::size::Size;
 use index::Known;
-use state::State;
+use index::passed::Passed;
+use state::progress::Progress;
 
 // Whether a round is open at a time: start ≤ time < end. They stand last in its content.
 fn is_open(board: &[u32], e: Known, time: u64) -> bool
@@ -29,71 +30,52 @@ fn is_open(board: &[u32], e: Known, time: u64) -> bool
     start <= time && time < end
 }
 
-// Whether a round is in force under item number k, of the first count, and open at a time. 0 is none.
-fn is_open_under(board: &[u32], index: &[u32], count: usize, k: usize, time: u64) -> bool
-    requires { (Kept board.now index.now count) × (InForce (before board.now count) k) }
-    ensures { result ≡ open_under time (before board.now count) k }
+// Whether a slot has a round in force, by its item number, that is open at a time. 0 is none.
+fn is_open_under(passed: &Passed, slot: u32, time: u64) -> bool
+    requires { InForce (history_of passed.now) slot }
+    ensures { result ≡ open_under time (history_of passed.now) slot }
 {
-    if k == 0 {
-        return false;
-    }
-    let e = index::entry(board, index, count, k);
-    is_open(board, e, time)
+    slot != 0 && is_open(passed.board, passed.entry(words::wide(slot)), time)
 }
 
-// A set with the contests of the round under item number k, where it is open at a time; none for 0.
-fn with_contests(
-    board: &[u32],
-    index: &[u32],
-    count: usize,
-    k: usize,
-    time: u64,
-    set: [u32; 8],
-) -> [u32; 8]
-    requires { (Kept board.now index.now count) × (InForce (before board.now count) k) }
-    ensures { (i : ℕ) → i < 8 → get_or result i 0 ≡ bit_or (get_or set i 0) (word_under time (before board.now count) i k) }
+// A set with the contests of the round in a slot, where it is open at a time; none for 0.
+fn with_contests(passed: &Passed, slot: u32, time: u64, set: [u32; 8]) -> [u32; 8]
+    requires { InForce (history_of passed.now) slot }
+    ensures { (i : ℕ) → i < 8 → get_or result i 0 ≡ bit_or (get_or set i 0) (word_under time (history_of passed.now) i slot) }
 {
-    if k == 0 {
+    if slot == 0 {
         return set;
     }
-    let e = index::entry(board, index, count, k);
-    if is_open(board, e, time) {
-        let item = e.item;
-        return sets::union(set, board, item.content + 1, item.head.count - Size::ROUND);
+    let board = passed.board;
+    let e = passed.entry(words::wide(slot));
+    if !is_open(board, e, time) {
+        return set;
     }
-    set
+    let item = e.item;
+    sets::union(set, board, item.content + 1, item.head.count - Size::ROUND)
 }
 
 // Whether a round is open at a time.
-pub fn is_any_open(board: &[u32], index: &[u32], s: State, time: u64) -> bool
-    requires { (Kept board.now index.now s.items) × (Stands board.now s) }
-    ensures { result ≡ any (is_open time) (rounds (before board.now s.items)) }
+pub fn is_any_open(progress: &Progress, time: u64) -> bool
+    ensures { result ≡ any (is_open time) (rounds (history_behind progress.now)) }
 {
-    let count = s.items;
-    let slots = s.rounds;
-    let mut j = 0;
-    while j < State::ROUNDS {
-        if is_open_under(board, index, count, words::wide(slots[j]), time) {
-            return true;
-        }
-        j += 1;
-    }
-    false
+    let passed = progress.passed();
+    progress
+        .state
+        .rounds
+        .iter()
+        .any(|slot| is_open_under(&passed, *slot, time))
 }
 
 // The contests that the rounds open at a time enable, as a set.
-pub fn enabled(board: &[u32], index: &[u32], s: State, time: u64) -> [u32; 8]
-    requires { (Kept board.now index.now s.items) × (Stands board.now s) }
-    ensures { (k : ℕ) → k < 8 → get_or result k 0 ≡ enabled_word time (before board.now s.items) k }
+pub fn enabled(progress: &Progress, time: u64) -> [u32; 8]
+    ensures { (k : ℕ) → k < 8 → get_or result k 0 ≡ enabled_word time (history_behind progress.now) k }
 {
-    let count = s.items;
-    let slots = s.rounds;
+    let passed = progress.passed();
     let mut contests = [0; Format::WIDE];
-    let mut j = 0;
-    while j < State::ROUNDS {
-        let more = with_contests(board, index, count, words::wide(slots[j]), time, contests);
+    for slot in progress.state.rounds {
+        let more = with_contests(&passed, slot, time, contests);
         contests = more;
-        j += 1;
     }
     contests
 }

@@ -1,24 +1,26 @@
--- `enabled` meets its contract. The loop's invariant: the set has the contests of the open rounds in the slots below j. Assumes nothing.
-use Rattle.index.specs.Kept.{before}
+-- `enabled` meets its contract. The loop's invariant: the set has the contests of the open rounds in the slots before its. Assumes nothing.
+use mathlib.Core.Path.{refl}
+use Rattle.state.specs.Reached.{history_behind}
+use Rattle.state.proofs.Had.{kept-held, stands-held}
 use Rattle.rounds.proofs.Slots.{enabled-none, enabled-all, force-in, enabled-next}
-use borrow.Author.Rules.{rules}
 use Rattle.rounds.proofs.enabled.Goals as goal
 
-pub loop-j-init : goal.loop-j-init
-loop-j-init c = (search rules, enabled-none _ _)
+pub loop-slot-init : goal.loop-slot-init
+loop-slot-init c = enabled-none _ _
 
 pub with_contests-more-requires : goal.with_contests-more-requires
-with_contests-more-requires c = (c.requires.0, force-in c.requires.0 c.requires.1 c.loop-j.j _ c.loop-j-test.true c.wide.ensures)
+with_contests-more-requires c =
+    let p = c.args.progress.now in
+    rw (c.passed-passed.ensures.board, c.passed-passed.ensures.count)
+    (force-in (kept-held p.reached) (stands-held p.reached) c.loop-slot.slot-index _ c.loop-slot-test.true refl)
 
-pub loop-j-preserved : goal.loop-j-preserved
-loop-j-preserved c =
-    let s = c.before.before.before.before.before.before.before in (
-      search rules,
-      enabled-next s.requires.0 s.requires.1 c.loop-j.j _ c.loop-j-test.true
-          c.wide.ensures s.args.time c.loop-j.contests c.with_contests-more.result c.loop-j.invariant.1 c.with_contests-more.ensures,
-    )
+pub loop-slot-preserved : goal.loop-slot-preserved
+loop-slot-preserved c =
+    let p = c.args.progress.now in
+    enabled-next (kept-held p.reached) (stands-held p.reached) c.loop-slot.slot-index _ c.loop-slot-test.true
+    refl c.args.time c.loop-slot.contests c.with_contests-more.result c.loop-slot.invariant
+    (rw (c.passed-passed.ensures.board, c.passed-passed.ensures.count) at c.with_contests-more.ensures)
 
 pub returns : goal.returns
 returns c =
-    let a = c.args in
-    enabled-all a.time (before a.board.now a.s.items) c.loop-j.j c.loop-j.contests c.loop-j.invariant.0 c.loop-j-test.false c.loop-j.invariant.1
+    enabled-all c.args.time (history_behind c.args.progress.now) c.loop-slot.slot-index c.loop-slot.contests c.loop-slot.auto.slot-index-end c.loop-slot-test.false c.loop-slot.invariant

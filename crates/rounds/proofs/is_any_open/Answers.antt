@@ -1,29 +1,29 @@
--- `is_any_open` meets its contract. The loop's invariant: no slot below j holds an open round. Assumes nothing.
-use mathlib.Core.Path.{sym, ◌∙◌}
-use Rattle.rounds.proofs.Slots.{open_below-none, force-in, open-found, open_next, open_none}
-use borrow.Author.Rules.{rules}
+-- `is_any_open` meets its contract: the words of the slots are the rounds in force. Assumes nothing.
+use Rattle.std.proofs.Common.{rules, tests}
+use Rattle.std.proofs.lemmas.Grind.{get_or_default_zero}
+use Rattle.std.proofs.lemmas.Iterator.{YieldsList-from_slice}
+use Rattle.std.proofs.lemmas.Iterator.Adapters.{serves_from_places}
+use Rattle.std.proofs.lemmas.Iterator.Search.{any_from_yields_List}
+use Rattle.index.specs.Passed.{history_of}
+use Rattle.state.specs.Reached.{history_behind}
+use Rattle.state.proofs.Had.{kept-held, stands-held}
+use Rattle.rounds.specs.Open.{InForce, open_under}
+use Rattle.rounds.proofs.Slots.{force-in, open-slots}
+use native.Mathlib.Omega.{arith}
+use mathlib.Core.Path.{◌∙◌}
 use Rattle.rounds.proofs.is_any_open.Goals as goal
 
-pub loop-j-init : goal.loop-j-init
-loop-j-init c = (search rules, open_below-none _ _)
-
-pub is_open_under-requires : goal.is_open_under-requires
-is_open_under-requires c = (c.requires.0, force-in c.requires.0 c.requires.1 c.loop-j.j _ c.loop-j-test.true c.wide.ensures)
-
-pub returns-then-is_open_under : goal.returns-then-is_open_under
-returns-then-is_open_under c =
-    sym (open-found c.requires.0 c.requires.1 c.loop-j.j _ c.loop-j-test.true
-    c.wide.ensures c.args.time (sym c.is_open_under.ensures ∙ c.if-is_open_under.true))
-
-pub loop-j-preserved : goal.loop-j-preserved
-loop-j-preserved c =
-    let s = c.before.before.before.before.before.before.before.before in (
-      search rules,
-      open_next s.requires.0 s.requires.1 c.loop-j.j _ c.loop-j-test.true
-          c.wide.ensures s.args.time c.loop-j.invariant.1
-          (sym c.is_open_under.ensures ∙ c.if-is_open_under.false),
-    )
+pub any-requires-clause-callable : goal.any-requires-clause-callable
+any-requires-clause-callable c =
+    let p = c.args.progress.now in
+    serves_from_places (YieldsList-from_slice p.state.rounds cc) (λ x q k. search rules)
+    (λ x k l e.
+    let under : InForce (history_of c.passed-passed.result) x.now =
+    rw (c.passed-passed.ensures.board, c.passed-passed.ensures.count) (force-in (kept-held p.reached) (stands-held p.reached) k x.now (omega arith) (e ∙ get_or_default_zero _ _ _ l)) in
+    search rules)
 
 pub returns : goal.returns
 returns c =
-    sym (open_none c.requires.0 c.args.time c.loop-j.j c.loop-j.invariant.0 c.loop-j-test.false c.loop-j.invariant.1)
+    let p = c.args.progress.now in
+    any_from_yields_List (open_under c.args.time (history_behind p)) _ _ _ c.any.ensures.ran (YieldsList-from_slice p.state.rounds cc) (λ x b q k. search (rules, tests))
+    ∙ open-slots (kept-held p.reached) (stands-held p.reached) c.args.time (search rules)

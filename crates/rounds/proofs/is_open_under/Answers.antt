@@ -1,22 +1,18 @@
 -- `is_open_under` meets its contract. Assumes nothing.
-use Rattle.index.specs.Kept.{before}
+use borrow.Author.Tests.{eq-eqb}
+use Rattle.index.specs.Passed.{history_of}
+use Rattle.index.proofs.Had.{kept-had}
 use Rattle.rounds.proofs.Round.{force-range, round_under, open-under, open_none}
 use Rattle.rounds.proofs.is_open_under.Goals as goal
 
-pub returns-then-k-eq0 : goal.returns-then-k-eq0
-returns-then-k-eq0 c =
-    let a = c.args in
-    open_none a.time (before a.board.now a.count) a.k c.if-k-eq0.true
-
-pub entry-e-requires : goal.entry-e-requires
-entry-e-requires c =
-    let s = c.before.before.before in record {
-      kept = s.requires.0;
-      le_k = force-range s.requires.0 s.requires.1 c.if-k-eq0.false;
-    }
+pub entry-requires : goal.entry-requires
+entry-requires c = rw c.wide.ensures (force-range (kept-had c.args.passed.now.kept) c.requires c.if-slot-ne0.true)
 
 pub is_open-requires : goal.is_open-requires
-is_open-requires c = round_under c.requires.0 c.requires.1 c.if-k-eq0.false c.entry-e.ensures
+is_open-requires c = round_under (kept-had c.args.passed.now.kept) c.requires c.if-slot-ne0.true (rw c.wide.ensures at c.entry.ensures)
 
-pub returns : goal.returns
-returns c = open-under c.requires.0 c.requires.1 c.if-k-eq0.false c.entry-e.ensures c.args.time _ c.is_open.ensures
+pub returns-then-slot-ne0 : goal.returns-then-slot-ne0
+returns-then-slot-ne0 c = open-under (kept-had c.args.passed.now.kept) c.requires c.if-slot-ne0.true (rw c.wide.ensures at c.entry.ensures) c.args.time _ c.is_open.ensures
+
+pub returns-else-slot-ne0 : goal.returns-else-slot-ne0
+returns-else-slot-ne0 c = rw (eq-eqb _ 0 c.if-slot-ne0.false) (open_none c.args.time (history_of c.args.passed.now) c.args.slot c.if-slot-ne0.false)
