@@ -1,6 +1,6 @@
 -- The answer of listing the ancestry of an item of a board that was accepted, and what a list of zeros then holds. Assumes nothing.
-use Prim.Native.Nat.{ℕ, ◌+◌, ◌≤◌, ◌<◌}
-use native.Mathlib.Nat.{zero-add, sub-zero}
+use Prim.Native.Nat.{ℕ, ◌≤◌, ◌<◌}
+use native.Mathlib.Nat.{sub-zero}
 use native.Mathlib.Omega.{arith}
 use mathlib.Core.Path.{◌≡◌, sym, ap, ◌∙◌}
 use mathlib.Core.Logic.{◌≢◌}
@@ -11,21 +11,15 @@ use lib.Seq.{sets}
 use lib.Dec.{T, eqb, lt→ltb}
 use Rattle.model.specs.Refusal.{no_such_item}
 use Rattle.model.specs.History.{History}
-use Rattle.model.specs.Audit.{accepted, item_limit}
+use Rattle.model.specs.Audit.{accepted}
 use Rattle.model.specs.Report.{outside, filled, table_after}
 use Rattle.model.specs.Ancestry.{ancestry, list_need, AncestryAnswer, unlisted, listed, ancestry_answer, written, list_after}
 use Rattle.model.proofs.Tests.{tests, neither, or_left, or_right, eq→eqb, if_yes, if_no}
-use Rattle.model.proofs.Ancestry.{ancestry-line, line-length}
 use Rattle.model.proofs.Unchecked.{length-history}
 use Rattle.format.specs.Format.{format_of}
 use Rattle.words.proofs.Writing.{sets-zeros}
 use Rattle.index.specs.Kept.{before, Kept}
-
--- an ancestry has no more numbers than the item's own
-pub ancestry-few : {board index : List ℕ} {items number : ℕ} → Kept board index items → 1 ≤ number → number ≤ items
-    → length (ancestry (before board items) number) ≤ number
-ancestry-few {board} {items = items} {number = number} kept some few =
-    line-length (ancestry-line kept.passed number some (omega (arith, length-history (format_of board) board items)))
+use Rattle.climb.proofs.Steps.{ancestry-few}
 
 module _ (board : List ℕ) (items number : ℕ) (list : List ℕ) (zeros : list ≡ replicate (length list) 0) where
   abbrev h : History
@@ -49,25 +43,16 @@ module _ (board : List ℕ) (items number : ℕ) (list : List ℕ) (zeros : list
   pub none-past : items < number → Answered (unlisted no_such_item items) list
   none-past l = none-such (or_right (eqb number 0) _ (lt→ltb (length h) number (omega (arith, length-history (format_of board) board items))))
 
-  some-asked : {index : List ℕ} → Kept board index items → number ≢ 0 → number ≤ items → list_need ≤ length list → {n : ℕ} {after : List ℕ}
-      → n ≡ 0 + length (ancestry h number) → after ≡ sets list 0 (ancestry h number) → Answered (listed n) after
+  pub some-asked : {index : List ℕ} → Kept board index items → number ≢ 0 → number ≤ items → list_need ≤ length list → {n : ℕ} {after : List ℕ}
+      → n ≡ length (ancestry h number) → after ≡ sets list 0 (ancestry h number) → Answered (listed n) after
   unfolding ancestry_answer table_after written
   some-asked kept z l long e s =
       let there : T (not (outside number (length h))) = simp neither (omega (arith, tests, length-history (format_of board) board items)) in
       let few = ancestry-few kept (omega arith) l in
       let most = kept.few in (
-        ap listed (e ∙ zero-add _) ∙ sym (if_no (outside number (length h)) _ _ there),
+        ap listed e ∙ sym (if_no (outside number (length h)) _ _ there),
         s
             ∙ ap (λ (words : List ℕ). sets words 0 (ancestry h number)) zeros
             ∙ sets-zeros (length list) (ancestry h number) (omega arith)
             ∙ ap (filled (length list)) (sym (if_no (outside number (length h)) _ _ there)),
       )
-
-  -- what `climb` wrote, with the item count as it was read
-  module _ {index : List ℕ} (kept : Kept board index items) {count : ℕ} (same : count ≡ items) (z : number ≢ 0) (l : number ≤ count) {n : ℕ}
-      (e : n ≡ 0 + length (ancestry (before board count) number)) where
-    pub climbed-few : n ≤ item_limit
-    climbed-few = omega (arith, rw same at e, ancestry-few {number = number} kept (omega arith) (omega arith), kept.few)
-
-    pub climbed : list_need ≤ length list → {after : List ℕ} → after ≡ sets list 0 (ancestry (before board count) number) → Answered (listed n) after
-    climbed long s = some-asked kept z (omega arith) long (rw same at e) (rw same at s)

@@ -5,9 +5,10 @@ ghost use Rattle.std.specs.Prelude.{◌≡◌, ◌≤◌, length, replicate};
 ghost use Rattle.model.specs.Audit.{accepted};
 ghost use Rattle.model.specs.Refusal.{no_such_item};
 ghost use Rattle.model.specs.Ancestry.{list_need, unlisted, ancestry_answer, list_after};
-ghost use Rattle.index.specs.Kept.{before, Kept};
+ghost use Rattle.index.specs.Passed.{history_of};
 ghost use Rattle.ancestry.specs.Answer.{answer_of};
 
+use index::passed::Passed;
 use refusal::Refusal;
 
 #[derive(Clone, Copy)]
@@ -29,26 +30,18 @@ fn no_such(items: u32) -> Listing
 }
 
 // Lists the ancestry of an item of a board that was accepted, in a list of zeros.
-pub fn list_accepted(
-    board: &[u32],
-    index: &[u32],
-    items: u32,
-    number: usize,
-    list: &mut [u32],
-) -> Listing
-    requires kept { Kept board.now index.now items }
-    requires list_need_in_bounds { (list_need ≤ length list.old) × (list.old ≡ replicate (length list.old) 0) }
-    ensures answer { answer_of result ≡ ancestry_answer (accepted (before board.now items)) number }
-    ensures list { list.new ≡ list_after (accepted (before board.now items)) number list.old }
+pub fn list_accepted(passed: &Passed, number: usize, list: &mut [u32]) -> Listing
+    requires { (list_need ≤ length list.old) × (list.old ≡ replicate (length list.old) 0) }
+    ensures answer { answer_of result ≡ ancestry_answer (accepted (history_of passed.now)) number }
+    ensures list { list.new ≡ list_after (accepted (history_of passed.now)) number list.old }
 {
+    let count = passed.count;
     // item number 0, or past the last
     if number == 0 {
-        return no_such(items);
+        return no_such(count as u32);
     }
-    let count = words::wide(items);
     if count < number {
-        return no_such(items);
+        return no_such(count as u32);
     }
-    let written = climb::climb(board, index, count, number, list, 0) as u32;
-    Listing::Listed(written)
+    Listing::Listed(climb::climb(passed, number, list) as u32)
 }

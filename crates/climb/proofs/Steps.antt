@@ -1,22 +1,44 @@
 -- The ancestry of an item goes on with that of its parent, or ends at genesis, and what one step of the climb writes. Assumes nothing.
 use Prim.Native.Nat.{ℕ, zero, suc, ◌+◌, ◌-◌, ◌≤◌, ◌<◌}
-use native.Mathlib.Numerals.{add-one}
+use native.Mathlib.Nat.{le_refl, not-suc-le-zero}
 use native.Mathlib.Decide.{dec_lt}
 use native.Mathlib.Omega.{arith}
-use mathlib.Core.Path.{◌≡◌, sym, ap, ◌∙◌}
+use mathlib.Core.Path.{◌≡◌, refl, sym, ap, ◌∙◌}
 use mathlib.Core.Logic.{◌≢◌, by_cases}
-use mathlib.Core.List.{List, [], ◌∷◌}
-use lib.ListN.{length, set}
-use lib.Seq.{sets}
+use mathlib.Core.List.{List, [], ◌∷◌, append-nil}
+use lib.ListN.{length, set, take, drop, drop_of_length-le}
+use borrow.Rule.Slice.PartMut.{put_mid}
+use lib.Seq.{sets, take_all}
 use borrow.Author.Tests.{eq-eqb, ne_eqb}
 use Rattle.model.specs.Lists.{if◌then◌otherwise◌}
 use Rattle.model.specs.History.{History, entry}
 use Rattle.model.specs.Ancestry.{up_to, ancestry}
-use Rattle.index.specs.declared.Known.{Known}
+use Rattle.model.proofs.Ancestry.{ancestry-line, line-length}
+use Rattle.model.proofs.Unchecked.{length-history}
+use Rattle.format.specs.Format.{format_of}
 use Rattle.index.specs.Kept.{before, Kept}
-use Rattle.index.specs.Known.{IsKnown}
 use Rattle.index.proofs.Items.{entry-parent-bound}
-use Rattle.index.proofs.Reading.{known-parent}
+
+-- ---- a number, and others behind it
+
+sets-behind : (x : ℕ) (xs : List ℕ) (i : ℕ) (ns : List ℕ) → sets (x ∷ xs) (suc i) ns ≡ x ∷ sets xs i ns
+sets-behind x xs i [] = refl
+sets-behind x xs i (a ∷ ns) = sets-behind x (set xs i a) (suc i) ns
+
+written-both : (list : List ℕ) (k : ℕ) (ns : List ℕ) → 1 ≤ length list → let first = set list 0 k in
+    put_mid 1 (length first - 1) first (sets (take (length first - 1) (drop 1 first)) 0 ns) ≡ sets list 0 (k ∷ ns)
+written-both [] k ns l = absurd (not-suc-le-zero l)
+written-both (x ∷ xs) k ns l =
+    let size : suc (length xs) - 1 ≡ length xs = omega arith in
+    rw (size, take_all (length xs) xs (le_refl (length xs)), drop_of_length-le xs {i = length xs} (le_refl (length xs)), append-nil) (sym (sets-behind k xs 0 ns))
+
+-- ---- the ancestry
+
+-- it has no more numbers than the item's own
+pub ancestry-few : {board index : List ℕ} {items number : ℕ} → Kept board index items → 1 ≤ number → number ≤ items
+    → length (ancestry (before board items) number) ≤ number
+ancestry-few {board} {items = items} {number = number} kept some few =
+    line-length (ancestry-line kept.passed number some (omega (arith, length-history (format_of board) board items)))
 
 module _ {board index : List ℕ} {n : ℕ} (kept : Kept board index n) where
   abbrev h : History
@@ -54,21 +76,17 @@ module _ {board index : List ℕ} {n : ℕ} (kept : Kept board index n) where
         ∙ rw (ne_eqb (up k) k other)
         (ap (λ (rest : List ℕ). k ∷ rest) (enough k (k - 1) (up k) (up k) (omega arith) (omega arith) (omega arith) bound.0 (omega arith)))
 
-    -- what `climb` ensures, of what is read of the item
-    module _ (r : Known) (is : IsKnown board (entry h k) r) (list : List ℕ) (at : ℕ) where
-      pub climb-less : r.parent ≢ k → (1 ≤ r.parent) × (r.parent < k)
-      climb-less other =
-          let bound = entry-parent-bound kept k some few in
-          let same = known-parent is in
-          (omega arith, omega arith)
+    -- what `climb` ensures, of the parent that is read
+    module _ (parent : ℕ) (is : parent ≡ up k) (list : List ℕ) where
+      pub climb-less : parent ≢ k → (1 ≤ parent) × (parent < k)
+      climb-less other = let bound = entry-parent-bound kept k some few in (omega arith, omega arith)
 
-      pub climb-ends : r.parent ≡ k → (at + 1 ≡ at + length (ancestry h k)) × (set list at k ≡ sets list at (ancestry h k))
-      climb-ends own = let a = ancestry-ends (sym (known-parent is) ∙ own) in (rw a, rw a)
+      pub climb-ends : parent ≡ k → (1 ≡ length (ancestry h k)) × (set list 0 k ≡ sets list 0 (ancestry h k))
+      climb-ends own = let a = ancestry-ends (sym is ∙ own) in (rw a, rw a)
 
-      pub climb-goes : r.parent ≢ k → (next : ℕ) (after : List ℕ) → next ≡ at + 1 + length (ancestry h r.parent)
-          → after ≡ sets (set list at k) (at + 1) (ancestry h r.parent)
-          → (next ≡ at + length (ancestry h k)) × (after ≡ sets list at (ancestry h k))
-      climb-goes other next after e s =
-          let same = known-parent is in
-          let a = ancestry-climbs (λ q. other (same ∙ q)) in
-          (rw a (rw same at e ∙ omega arith), rw a (rw (same, add-one) at s))
+      pub climb-goes : parent ≢ k → k ≤ length list → (further : ℕ) (rest : List ℕ) → further ≡ length (ancestry h parent)
+          → rest ≡ sets (take (length (set list 0 k) - 1) (drop 1 (set list 0 k))) 0 (ancestry h parent)
+          → (further + 1 ≡ length (ancestry h k)) × (put_mid 1 (length (set list 0 k) - 1) (set list 0 k) rest ≡ sets list 0 (ancestry h k))
+      climb-goes other room further rest e s =
+          let a = ancestry-climbs (λ q. other (is ∙ q)) in
+          (rw (a, ← is) (omega (arith, e)), rw (a, ← is, s) (written-both list k (ancestry h parent) (omega arith)))

@@ -2,29 +2,23 @@
 // its audit left.
 #![tactic(auto)]
 
-ghost use Rattle.std.specs.Prelude.{◌≡◌, ◌+◌, ◌≤◌, length};
+ghost use Rattle.std.specs.Prelude.{◌≡◌, ◌≤◌, length};
 ghost use Rattle.std.proofs.lemmas.List.Edits.{sets};
 ghost use Rattle.model.specs.Ancestry.{ancestry};
-ghost use Rattle.index.specs.Kept.{before, Kept};
+ghost use Rattle.index.specs.Passed.{history_of};
 
-// Writes the item's number and those of its ancestors into the list, from a place on, and returns the place after them.
-pub fn climb(
-    board: &[u32],
-    index: &[u32],
-    count: usize,
-    number: usize,
-    list: &mut [u32],
-    at: usize,
-) -> usize
-    requires kept { Kept board.now index.now count }
-    requires le_number { (1 ≤ number) × (number ≤ count) × (at + number ≤ length list.old) }
-    ensures answer { result ≡ at + length (ancestry (before board.now count) number) }
-    ensures list { list.new ≡ sets list.old at (ancestry (before board.now count) number) }
+use index::passed::Passed;
+
+// Writes the item's number and those of its ancestors into the first words of the list, and returns how many they are.
+pub fn climb(passed: &Passed, number: usize, list: &mut [u32]) -> usize
+    requires { (1 ≤ number) × (number ≤ passed.now.count) × (number ≤ length list.old) }
+    ensures answer { result ≡ length (ancestry (history_of passed.now) number) }
+    ensures list { list.new ≡ sets list.old 0 (ancestry (history_of passed.now) number) }
 {
-    list[at] = number as u32;
-    let parent = index::entry(board, index, count, number).parent;
+    list[0] = number as u32;
+    let parent = passed.parent(number);
     if parent == number {
-        return at + 1;
+        return 1;
     }
-    climb(board, index, count, parent, list, at + 1)
+    climb(passed, parent, &mut list[1..]) + 1
 }
