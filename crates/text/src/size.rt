@@ -3,7 +3,7 @@ ghost use Rattle.std.specs.Prelude.{◌≡◌};
 ghost use Rattle.model.specs.Program.{size_fault};
 ghost use Rattle.refusal.specs.Number.{found_of};
 
-use refusal::{Finding, Refusal};
+use refusal::Refusal;
 
 // The bytes of the three files.
 #[derive(Clone, Copy)]
@@ -27,21 +27,18 @@ impl Sizes {
     pub const ROLL: usize = 4_097;
 
     // The refusal of the sizes: 4 where a file does not hold whole words, then 1 where the board has too many.
-    pub fn finding(self) -> Finding
+    pub fn finding(self) -> Result<(), Refusal>
         ensures { found_of result ≡ size_fault self.board self.verdicts self.roll }
     {
-        if self.board % Sizes::WORD != 0 {
-            return Finding::Fails(Refusal::Truncated);
-        }
-        if self.verdicts % Sizes::WORD != 0 {
-            return Finding::Fails(Refusal::Truncated);
-        }
-        if self.roll % Sizes::WORD != 0 {
-            return Finding::Fails(Refusal::Truncated);
+        if self.board % Sizes::WORD != 0
+            || self.verdicts % Sizes::WORD != 0
+            || self.roll % Sizes::WORD != 0
+        {
+            return Err(Refusal::Truncated);
         }
         if self.board / Sizes::WORD > Sizes::BOARD {
-            return Finding::Fails(Refusal::TooLarge);
+            return Err(Refusal::TooLarge);
         }
-        Finding::Passes
+        Ok(())
     }
 }

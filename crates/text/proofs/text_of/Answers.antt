@@ -1,25 +1,26 @@
 -- `text::text_of` meets its contract. Assumes nothing.
+use native.Mathlib.Omega.{arith}
 use Rattle.text.proofs.Placed.{put-start}
 use Rattle.text.proofs.Lines.{length-accepted}
 use Rattle.text.proofs.Answer.{put-refusal, put-acceptance}
-use native.Mathlib.Omega.{arith}
 use Rattle.text.proofs.text_of.Goals as goal
-
-pub returns-then-number-ne0 : goal.returns-then-number-ne0
-returns-then-number-ne0 c =
-    let x = c.args in
-    put-start (put-refusal x.number x.items x.mains x.ballots x.weight x.table.now c.if-number-ne0.true c.refused_line.ensures)
 
 pub row_lines-requires : goal.row_lines-requires
 row_lines-requires c =
-    let long = length-accepted c.args.items c.args.mains c.args.ballots c.args.weight
-    c.ranges.items.fits c.ranges.mains.fits c.ranges.ballots.fits c.ranges.weight.fits in record {
+    let a = c.in-Ok.accepted in
+    let long = length-accepted a.items a.mains a.ballots a.weight (omega arith) (omega arith) (omega arith) (omega arith) in
+    let room = rw c.in-Ok.is at c.requires.room in record {
       room = omega arith;
-      rows = omega arith;
+      rows = rw c.in-Ok.is at c.requires.rows;
     }
 
-pub returns : goal.returns
-returns c =
-    let x = c.args in
-    put-start (put-acceptance x.number x.items x.mains x.ballots x.weight x.table.now
-    c.if-number-ne0.false c.accepted_line-end.ensures (rw c.wide.ensures at c.row_lines.ensures))
+pub returns-in-Ok : goal.returns-in-Ok
+returns-in-Ok c =
+    let a = c.in-Ok.accepted in
+    rw c.in-Ok.is (put-start (put-acceptance a.items a.mains a.ballots a.weight c.args.table.now c.accepted_line-end.ensures c.row_lines.ensures))
+
+pub returns-in-Err : goal.returns-in-Err
+returns-in-Err c =
+    let r = c.in-Err.refused in
+    let line = rw c.from.ensures at c.refused_line.ensures in
+    rw c.in-Err.is (put-start (put-refusal r.items 0 0 0 c.args.table.now r.refusal line))
