@@ -7,6 +7,7 @@ use lib.ListN.{length, take, length-append, length-drop}
 use lib.Seq.{take_at, take_all, take-length}
 use lib.Dec.{leb}
 use borrow.Author.Tests.{leb-true, leb-false}
+use Rattle.std.specs.Prelude.{Result, Ok, Err}
 use Rattle.model.proofs.Tests.{by-test}
 use Rattle.model.specs.Format.{Format}
 use Rattle.model.specs.Audit.{Outcome, unread, refused, accepted, audit, ballot_row, ballot_need}
@@ -25,8 +26,6 @@ use Rattle.text.proofs.Files.{from_bytes-take, kept-enough}
 use Rattle.refusal.specs.Number.{number_of, found_of}
 use Rattle.refusal.specs.declared.Refusal.{Refusal}
 use Rattle.refusal.proofs.Laws.{number-some}
-use Rattle.refusal.specs.declared.Finding.{Finding}
-use Rattle.refusal.specs.declared.Finding.TheVariants.{Passes, Fails}
 use Rattle.program.specs.Read.{Read}
 
 -- the text of the audit, from its report and the ballot table behind it
@@ -56,13 +55,13 @@ shown-within s e = omega (arith, s.end, simp (length-append, length-drop) at (ap
 -- ---- the sizes
 
 -- the text of files whose sizes are refused, and of others
-module _ (g : Finding) (n : ℕ) (o : Outcome) {l m : List ℕ} {k : ℕ} (found : found_of g ≡ n) where
-  pub refused-shown : (x : Refusal) (i : ℕ) (t : List ℕ) → g ≡ Fails x → i ≡ number_of x → Shown l (text_from i 0 0 0 0 t) m k → Shown l (text_of (sized n o)) m k
-  refused-shown x i t e f s =
-      let same : n ≡ i = sym found ∙ ap found_of e ∙ sym f in
-      rw (same, ← text_from-sized i o t (λ z. omega (arith, number-some x))) s
+module _ {X : Type 0} (g : Result X Refusal) (n : ℕ) (o : Outcome) {l m : List ℕ} {k : ℕ} (found : found_of g ≡ n) where
+  pub refused-shown : (x : Refusal) (t : List ℕ) → g ≡ Err x → Shown l (text_from (number_of x) 0 0 0 0 t) m k → Shown l (text_of (sized n o)) m k
+  refused-shown x t e s =
+      let same : n ≡ number_of x = sym found ∙ ap found_of e in
+      rw (same, ← text_from-sized (number_of x) o t (λ z. omega (arith, number-some x))) s
 
-  pub sized-shown : g ≡ Passes → Shown l (text_of o) m k → Shown l (text_of (sized n o)) m k
+  pub sized-shown : {u : X} → g ≡ Ok u → Shown l (text_of o) m k → Shown l (text_of (sized n o)) m k
   unfolding sized
   sized-shown e s = let none : n ≡ 0 = sym found ∙ ap found_of e in rw none s
 

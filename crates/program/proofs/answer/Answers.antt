@@ -5,13 +5,13 @@ use native.Mathlib.Omega.{arith}
 use Rattle.program.proofs.answer.Goals as goal
 
 pub slice_bounds-files_text-end : goal.slice_bounds-files_text-end
-slice_bounds-files_text-end c = rw length-take (omega (arith, c.held-first.ensures))
+slice_bounds-files_text-end c = rw length-take (omega (arith, c.min.ensures))
 
 pub slice_bounds-files_text-end-2 : goal.slice_bounds-files_text-end-2
-slice_bounds-files_text-end-2 c = rw length-take (omega (arith, c.held-second.ensures))
+slice_bounds-files_text-end-2 c = rw length-take (omega (arith, c.min-2.ensures))
 
 pub slice_bounds-files_text-end-3 : goal.slice_bounds-files_text-end-3
-slice_bounds-files_text-end-3 c = rw length-take (omega (arith, c.held-third.ensures))
+slice_bounds-files_text-end-3 c = rw length-take (omega (arith, c.min-3.ensures))
 
 pub files_text-requires : goal.files_text-requires
 files_text-requires c =
@@ -28,6 +28,6 @@ returns c =
       within = shown-within shown c.files_text.auto.out;
       text = λ b v w x y z.
           printed-shown c.args.board.now c.args.verdicts.now c.args.roll.now b v w
-          c.args.sizes.board c.args.sizes.verdicts c.args.sizes.roll c.held-first.result c.held-second.result c.held-third.result
-          c.requires.board c.requires.verdicts c.requires.roll c.held-first.ensures c.held-second.ensures c.held-third.ensures x y z shown;
+          c.args.sizes.board c.args.sizes.verdicts c.args.sizes.roll c.min.result c.min-2.result c.min-3.result
+          c.requires.board c.requires.verdicts c.requires.roll c.min.ensures c.min-2.ensures c.min-3.ensures x y z shown;
     }

@@ -4,8 +4,8 @@ use Rattle.program.proofs.Texts.{audit-shown, rows_fit}
 use native.Mathlib.Omega.{arith}
 use Rattle.program.proofs.audit_text.Goals as goal
 
-pub report_text-requires : goal.report_text-requires
-report_text-requires c =
+pub text_of-requires : goal.text_of-requires
+text_of-requires c =
     let a = c.audit-report in
     let fits = rows_fit (format_of c.args.board.now) c.args.board.now c.args.verdicts.now c.args.roll.now _ _ _ a.ensures.answer (omega arith) in record {
       room = omega arith;
@@ -15,4 +15,4 @@ report_text-requires c =
 pub returns : goal.returns
 returns c =
     let a = c.audit-report in
-    audit-shown c.args.board.now c.args.verdicts.now c.args.roll.now _ _ _ _ _ a.ensures.answer a.ensures.ballots c.report_text.ensures
+    audit-shown c.args.board.now c.args.verdicts.now c.args.roll.now _ _ _ _ _ a.ensures.answer a.ensures.ballots c.text_of.ensures

@@ -3,9 +3,8 @@ use mathlib.Core.List.{[]}
 use Rattle.program.proofs.Texts.{refused-shown, sized-shown}
 use Rattle.program.proofs.files_text.Goals as goal
 
-pub returns-in-Fails : goal.returns-in-Fails
-returns-in-Fails c =
-    refused-shown c.finding-finding.result _ _ c.finding-finding.ensures _ c.number_of.result [] c.in-Fails.is c.number_of.ensures c.text_of.ensures
+pub returns-in-Err : goal.returns-in-Err
+returns-in-Err c = refused-shown c.finding.result _ _ c.finding.ensures c.in-Err.refusal [] c.in-Err.is c.text_of.ensures
 
-pub returns-in-Passes : goal.returns-in-Passes
-returns-in-Passes c = sized-shown c.finding-finding.result _ _ c.finding-finding.ensures c.in-Passes.is c.words_text.ensures
+pub returns-in-Ok : goal.returns-in-Ok
+returns-in-Ok c = sized-shown c.finding.result _ _ c.finding.ensures c.in-Ok.is c.words_text.ensures
