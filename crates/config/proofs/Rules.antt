@@ -29,12 +29,12 @@ use Rattle.fields.proofs.Words.{is-type, not-type, content-within, content-lengt
 
 -- a set of contests on the board against those that are defined
 pub contests-is : {board : List ℕ} {s : State} → Stands board s → (p n : ℕ) → p + n ≤ length board → n ≤ 8 → (empty within : Bool)
-    → empty ≡ eqb (size (part p n board)) 0 → within ≡ all_in (part p n board) (member (part 0 n s.contests))
+    → empty ≡ eqb (size (part p n board)) 0 → within ≡ all_in (part p n board) (member s.contests)
     → (not empty && within) ≡ contests_ok (before board s.items) (part p n board)
 unfolding contests_ok
 contests-is {board} {s} stands p n inside few empty within e w =
     let words = length_part p n board inside in
-    rw (e, w, within-defined (before board s.items) s.contests (part p n board) n few (omega arith) stands.contests)
+    rw (e, w, within-defined (before board s.items) s.contests (part p n board) (omega arith) stands.contests)
 
 -- the words of a set, as the code finds them
 pub widths-few : (board : List ℕ) (f : Format) → f ≡ widths_of board → f.sets ≤ 8

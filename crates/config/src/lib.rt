@@ -125,9 +125,10 @@ pub fn contests_ok(board: &[u32], s: State, at: usize, n: usize) -> bool
     requires { (Stands board.now s) × (at + n ≤ length board.now) × (n ≤ 8) }
     ensures { result ≡ contests_ok (before board.now s.items) (part at n board.now) }
 {
-    if sets::is_empty(board, at, n) {
+    let contests = words::part(board, at, n);
+    if sets::is_empty(contests) {
         return false;
     }
     let defined = s.contests;
-    sets::is_within(board, at, n, &defined, 0)
+    sets::is_within(contests, &defined)
 }

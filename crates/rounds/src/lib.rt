@@ -52,7 +52,8 @@ fn with_contests(passed: &Passed, slot: u32, time: u64, set: [u32; 8]) -> [u32; 
         return set;
     }
     let item = e.item;
-    sets::union(set, board, item.content + 1, item.head.count - Size::ROUND)
+    let contests = words::part(board, item.content + 1, item.head.count - Size::ROUND);
+    sets::union(set, contests)
 }
 
 // Whether a round is open at a time.

@@ -10,14 +10,15 @@ use lib.Bits.{bit_and, bit_or, or_zero_r}
 use lib.Count.{ones_in, ones}
 use lib.Dec.{eqb, ltb, eqb-suc-zero}
 use lib.ListN.{length, get_or, set, replicate, take, drop, length-take, get_or-eq_default}
-use lib.Seq.{get_or-take, get_or-drop, get_or-set_same, get_or-set_other}
+use lib.Seq.{get_or-take, take-length, get_or-set_same, get_or-set_other}
 use borrow.Author.Tests.{eqb-true, eqb-false, ne_eqb, lt-ltb, ltb-true, ltb-false}
 use Rattle.model.specs.Lists.{if◌then◌otherwise◌, ◌⇒◌, part}
 use Rattle.model.specs.Words.{same_words, bit, in_words, member, size, every_below, count_below, all_in}
 use Rattle.model.proofs.Tests.{by-test, every_below-ext}
-use Rattle.model.proofs.Parts.{length_part, part-add, part-one}
 use Rattle.model.proofs.Sets.{bit-zero, in-word, set-size}
-use Rattle.sets.proofs.Bits.{bit-or, all-below, all_bits, all_bits-bit, ones-few, ones-zero, ones-all}
+use Rattle.std.specs.List.{list_all, zip, sum_by}
+use Rattle.std.proofs.lemmas.List.Sums.{sum_by-cons}
+use Rattle.sets.proofs.Bits.{bit-or, every_below-low, all-below, all_bits, all_bits-bit, ones-few, ones-zero, ones-all}
 
 -- ---- every number below n, from the lowest on
 
@@ -77,6 +78,20 @@ all_in-in_words s v small words =
     every_below-ext 32 (λ j. bit (get_or s k 0) j ⇒ in_words v (k * 32 + j)) (λ j. bit (get_or s k 0) j ⇒ bit (v k) j) (λ j m. rw (in-word v k j m))
     ∙ all_bits-bit (v k) (get_or s k 0) (words k) (small k))
 
+-- the same, of two sets word beside word
+zip_below : (f : ℕ → ℕ → Bool) (s t : List ℕ) → length s ≤ length t
+    → list_all (λ (p : ℕ × ℕ). f p.0 p.1) (zip s t) ≡ every_below (length s) (λ k. f (get_or s k 0) (get_or t k 0))
+unfolding every_below
+zip_below f [] t h = refl
+zip_below f (a ∷ s) [] h = absurd (omega arith)
+zip_below f (a ∷ s) (b ∷ t) h =
+    ap (f a b &&◌) (zip_below f s t (omega arith)) ∙ sym (every_below-low (length s) (λ k. f (get_or (a ∷ s) k 0) (get_or (b ∷ t) k 0)))
+
+pub within-all : (s t : List ℕ) → Small s → Small t → length s ≤ length t
+    → list_all (λ (p : ℕ × ℕ). eqb (bit_and p.0 ((2 ^ 32 - 1) - p.1)) 0) (zip s t) ≡ all_in s (member t)
+within-all s t small others h =
+    zip_below (λ v w. eqb (bit_and v ((2 ^ 32 - 1) - w)) 0) s t h ∙ sym (all_in-in_words s (λ k. get_or t k 0) small others)
+
 -- ---- a set of one word
 
 all_in-one : (w : ℕ) (p : ℕ → Bool) → all_in (w ∷ []) p ≡ all_bits w p
@@ -110,7 +125,7 @@ sum-zero zero n = rw zero-add
 sum-zero (suc m) n = rw (eqb-suc-zero m) (ne_eqb (suc m + n) 0 (λ z. omega arith))
 
 -- a set is empty where every word is zero
-size-zero : (s : List ℕ) → Small s → same_words s (replicate (length s) 0) ≡ eqb (size s) 0
+pub size-zero : (s : List ℕ) → Small s → same_words s (replicate (length s) 0) ≡ eqb (size s) 0
 unfolding size same_words
 size-zero [] small = refl
 size-zero (w ∷ s) small = rw (sum-zero (ones_in 32 w) (size s), ones-zero 32 w (small 0), size-zero s (λ k. small (suc k)))
@@ -120,55 +135,15 @@ pub size-ones : (w : ℕ) → w < 2 ^ 32 → ones w ≡ size (w ∷ [])
 unfolding size
 size-ones w l = ones-all 32 w l ∙ sym (add-zero (ones_in 32 w))
 
--- ---- a set that stands among other words: n words from place p on
+-- the code's `u32::count_ones(w)` of every word
+pub size-sum : (s : List ℕ) → Small s → sum_by ones s ≡ size s
+unfolding size
+size-sum [] small = refl
+size-sum (w ∷ s) small = sum_by-cons ones w s ∙ ap₂ ◌+◌ (ones-all 32 w (small 0)) (size-sum s (λ k. small (suc k)))
 
-module _ (l : List ℕ) (p : ℕ) where
-  pub set_word : (n k : ℕ) → k < n → get_or (part p n l) k 0 ≡ get_or l (p + k) 0
-  unfolding part
-  set_word n k m = get_or-take n (drop p l) k 0 m ∙ get_or-drop p l k 0
-
-  pub set_past : (n k : ℕ) → n ≤ k → get_or (part p n l) k 0 ≡ 0
-  unfolding part
-  set_past n k m = get_or-eq_default (take n (drop p l)) 0 (simp length-take (omega arith))
-
-  -- a loop that adds the code's `u32::count_ones(l[p + k])`: its beginning, one step, and its end
-  pub set-size-none : size (part p 0 l) ≡ 0
-  unfolding part size
-  set-size-none = refl
-
-  pub set-size-next : (k : ℕ) → get_or l (p + k) 0 < 2 ^ 32 → p + k < length l → size (part p (k + 1) l) ≡ size (part p k l) + ones (get_or l (p + k) 0)
-  unfolding size
-  set-size-next k small m =
-      rw (part-add p k 1 l, part-one (p + k) l 0 m, size-append (part p k l) (get_or l (p + k) 0 ∷ []))
-      (ap (size (part p k l) +◌) (sym (size-ones (get_or l (p + k) 0) small)))
-
-  pub set-size-few : (n : ℕ) → size (part p n l) ≤ 32 * n
-  unfolding part
-  set-size-few n = omega (arith, size_few (part p n l), length-take n (drop p l))
-
--- its words are words of 32 bits, where it is read
-abbrev pub Words : List ℕ → ℕ → ℕ → Type 0
-Words l p n = (k : ℕ) → k < n → get_or l (p + k) 0 < 2 ^ 32
-
-words_small : (l : List ℕ) (p n : ℕ) → Words l p n → Small (part p n l)
-words_small l p n small k =
-    by-test (ltb k n)
-    (λ q. let less = ltb-true k n q in rw (set_word l p n k less) (small k less))
-    (λ q. rw (set_past l p n k (ltb-false k n q)) (omega arith))
-
-module _ (l : List ℕ) (p n : ℕ) (small : Words l p n) (inside : p + n ≤ length l) where
-  -- it is empty: its words are zeros
-  pub empty-at : same_words (part p n l) (replicate n 0) ≡ eqb (size (part p n l)) 0
-  empty-at =
-      ap (λ (k : ℕ). same_words (part p n l) (replicate k 0)) (sym (length_part p n l inside)) ∙ size-zero (part p n l) (words_small l p n small)
-
-  -- it is within one that stands at another place: the code's `l[p + k] & !m[q + k] == 0` of every word
-  pub within-at : (m : List ℕ) (q : ℕ) → Words m q n
-      → all_in (part p n l) (member (part q n m)) ≡ every_below n (λ k. eqb (bit_and (get_or l (p + k) 0) ((2 ^ 32 - 1) - get_or m (q + k) 0)) 0)
-  within-at m q words =
-      all_in-in_words (part p n l) (λ k. get_or (part q n m) k 0) (words_small l p n small) (words_small m q n words)
-      ∙ rw (length_part p n l inside)
-      (every_below-ext n _ _ (λ k less. ap₂ (λ (v w : ℕ). eqb (bit_and v ((2 ^ 32 - 1) - w)) 0) (set_word l p n k less) (set_word m q n k less)))
+pub set-size-few : (l : List ℕ) (p n : ℕ) → size (part p n l) ≤ 32 * n
+unfolding part
+set-size-few l p n = omega (arith, size_few (part p n l), length-take n (drop p l))
 
 -- ---- a set within the empty one
 
@@ -221,21 +196,27 @@ set-put words a w k m =
     (λ q. rw (q, ← eqb-true a k q) (get_or-set_same words a _ 0 m))
     (λ q. rw q (get_or-set_other words a k _ 0 (λ e. eqb-false a k q (sym e))))
 
--- a loop that does so with each word of a set: its beginning and one step
-module _ (old l : List ℕ) (p : ℕ) where
+-- a loop that does so with each word of a set: its beginning, one step and its end
+module _ (old l : List ℕ) where
   abbrev pub Joined : List ℕ → ℕ → Type 0
-  Joined words k = (j : ℕ) → j < 8 → get_or words j 0 ≡ bit_or (get_or old j 0) (get_or (part p k l) j 0)
+  Joined words k = (j : ℕ) → j < 8 → get_or words j 0 ≡ bit_or (get_or old j 0) (get_or (take k l) j 0)
+
+  past : (k j : ℕ) → k ≤ j → get_or (take k l) j 0 ≡ 0
+  past k j h = get_or-eq_default (take k l) 0 (omega (arith, length-take k l))
 
   pub joined-none : Joined old 0
-  joined-none j m = rw (set_past l p 0 j zero-le, or_zero_r)
+  joined-none j m = rw (past 0 j zero-le, or_zero_r)
 
-  pub joined-next : (words : List ℕ) (k : ℕ) → k < length words → k < 8 → p + k < length l → Joined words k
-      → Joined (set words k (bit_or (get_or words k 0) (get_or l (p + k) 0))) (k + 1)
+  pub joined-next : (words : List ℕ) (k : ℕ) → k < length words → k < 8 → k < length l → Joined words k
+      → Joined (set words k (bit_or (get_or words k 0) (get_or l k 0))) (k + 1)
   unfolding if◌then◌otherwise◌
   joined-next words k small few inside all j m =
-      set-put words k (get_or l (p + k) 0) j small
+      set-put words k (get_or l k 0) j small
       ∙ by-test (eqb k j)
-      (λ q. rw (q, ← eqb-true k j q, all k few, set_past l p k k (omega arith), or_zero_r, set_word l p (k + 1) k (omega arith)))
+      (λ q. rw (q, ← eqb-true k j q, all k few, past k k (omega arith), or_zero_r, get_or-take (k + 1) l k 0 (omega arith)))
       (λ q. rw (q, all j m) (ap (bit_or (get_or old j 0)) (by-test (ltb j k)
-      (λ r. let less = ltb-true j k r in set_word l p k j less ∙ sym (set_word l p (k + 1) j (omega arith)))
-      (λ r. let more = ltb-false j k r in let other = eqb-false k j q in set_past l p k j more ∙ sym (set_past l p (k + 1) j (omega arith))))))
+      (λ r. let less = ltb-true j k r in get_or-take k l j 0 less ∙ sym (get_or-take (k + 1) l j 0 (omega arith)))
+      (λ r. let more = ltb-false j k r in let other = eqb-false k j q in past k j more ∙ sym (past (k + 1) j (omega arith))))))
+
+  pub joined-all : (words : List ℕ) → Joined words (length l) → (j : ℕ) → j < 8 → get_or words j 0 ≡ bit_or (get_or old j 0) (get_or l j 0)
+  joined-all words all = rw take-length at all

@@ -9,41 +9,29 @@ ghost use Rattle.model.specs.Words.{set_bits, member, size, all_in};
 
 use format::format::Format;
 
-// Whether the set of n words of a at a place is empty.
-pub fn is_empty(a: &[u32], at: usize, n: usize) -> bool
-    requires { at + n ≤ length a.now }
-    ensures { result ≡ eqb (size (part at n a.now)) 0 }
+// Whether a set is empty.
+pub fn is_empty(set: &[u32]) -> bool
+    ensures { result ≡ eqb (size set.now) 0 }
 {
-    words::is_zero(a, at, n)
+    words::is_zero(set)
 }
 
-// Whether each of its numbers is in the set of n words of b at a place.
-pub fn is_within(a: &[u32], at: usize, n: usize, b: &[u32], place: usize) -> bool
-    requires { (at + n ≤ length a.now) × (place + n ≤ length b.now) }
-    ensures { result ≡ all_in (part at n a.now) (member (part place n b.now)) }
+// Whether each of its numbers is in the other, of as many words.
+pub fn is_within(set: &[u32], other: &[u32]) -> bool
+    requires { length set.now ≤ length other.now }
+    ensures { result ≡ all_in set.now (member other.now) }
 {
-    let mut k = 0;
-    while k < n {
-        if a[at + k] & !b[place + k] != 0 {
-            return false;
-        }
-        k += 1;
-    }
-    true
+    set.iter()
+        .zip(other)
+        .all(|(word, of_other)| word & !of_other == 0)
 }
 
 // How many numbers it has.
-pub fn count(a: &[u32], at: usize, n: usize) -> u32
-    requires { (at + n ≤ length a.now) × (n ≤ 8) }
-    ensures { result ≡ size (part at n a.now) }
+pub fn count(set: &[u32]) -> u32
+    requires { length set.now ≤ 8 }
+    ensures { result ≡ size set.now }
 {
-    let mut total: u32 = 0;
-    let mut k = 0;
-    while k < n {
-        total += u32::count_ones(a[at + k]);
-        k += 1;
-    }
-    total
+    set.iter().map(|word| word.count_ones()).sum()
 }
 
 // A set with one more number.
@@ -59,16 +47,14 @@ pub fn with(set: [u32; 8], j: u32) -> [u32; 8]
     words
 }
 
-// A set with the numbers of the set of n words of a at a place.
-pub fn union(set: [u32; 8], a: &[u32], at: usize, n: usize) -> [u32; 8]
-    requires { (at + n ≤ length a.now) × (n ≤ 8) }
-    ensures { (k : ℕ) → k < 8 → get_or result k 0 ≡ bit_or (get_or set k 0) (get_or (part at n a.now) k 0) }
+// A set with the numbers of another.
+pub fn union(set: [u32; 8], more: &[u32]) -> [u32; 8]
+    requires { length more.now ≤ 8 }
+    ensures { (k : ℕ) → k < 8 → get_or result k 0 ≡ bit_or (get_or set k 0) (get_or more.now k 0) }
 {
     let mut words = set;
-    let mut k = 0;
-    while k < n {
-        words[k] |= a[at + k];
-        k += 1;
+    for (k, word) in more.iter().enumerate() {
+        words[k] |= *word;
     }
     words
 }

@@ -1,7 +1,7 @@
 -- The contests that a type 3 has defined so far, as a set: what the code keeps in place of the list of definitions; and the rules on contests
 -- as inclusions of sets. Paper: "Content", request (v). Assumes nothing.
 use Prim.Native.Nat.{ℕ, ◌*◌, ◌/◌, ◌%◌, ◌^◌, ◌≤◌, ◌<◌}
-use native.Mathlib.Nat.{zero-add, div-add-mod'}
+use native.Mathlib.Nat.{div-add-mod'}
 use native.Mathlib.Omega.{arith}
 use mathlib.Core.Path.{◌≡◌, refl, sym, ◌∙◌}
 use mathlib.Core.Bool.{◌&&◌, ◌||◌, or-false, or_assoc}
@@ -9,7 +9,7 @@ use mathlib.Core.List.{List, [], ◌∷◌, ◌++◌}
 use lib.Dec.{eqb}
 use lib.ListN.{length, get_or}
 use borrow.Author.Tests.{eqb-true, eqb-false, eq-eqb, ne_eqb}
-use Rattle.model.specs.Lists.{if◌then◌otherwise◌, part, any}
+use Rattle.model.specs.Lists.{if◌then◌otherwise◌, any}
 use Rattle.model.specs.Words.{set_bits, bit, in_words, member, all_in}
 use Rattle.model.specs.Codes.{contest_type}
 use Rattle.model.specs.Item.{word}
@@ -20,7 +20,6 @@ use Rattle.model.proofs.Tests.{by-test, all_in-ext}
 use Rattle.model.proofs.Lists.{Every}
 use Rattle.model.proofs.Sets.{bit-zero}
 use Rattle.sets.proofs.Bits.{bit-one, bit-or}
-use Rattle.sets.proofs.Sets.{set_word}
 use Rattle.state.specs.After.{contests_after}
 use Rattle.state.specs.Standing.{set_limit, enabled_word, defined_from, defined_word}
 use Rattle.state.proofs.Rounds.{RoundSmall, member-enabled}
@@ -69,24 +68,20 @@ member-defined h j = member-from 0 j h ∙ rw (bit-zero (j % 32))
 
 -- ---- the rules: a set within an array that holds these words
 
--- the first n words of such an array hold its numbers below 32 n
-in_array : (c : List ℕ) (v : ℕ → ℕ) → ((k : ℕ) → k < set_limit → get_or c k 0 ≡ v k) → (n : ℕ) → n ≤ set_limit → (j : ℕ) → j < set_bits * n
-    → member (part 0 n c) j ≡ in_words v j
+in_array : (c : List ℕ) (v : ℕ → ℕ) → ((k : ℕ) → k < set_limit → get_or c k 0 ≡ v k) → (j : ℕ) → j < set_bits * set_limit → member c j ≡ in_words v j
 unfolding in_words
-in_array c v same n few j l =
-    let word : get_or (part 0 n c) (j / 32) 0 ≡ v (j / 32) = set_word c 0 n (j / 32) (omega arith) ∙ rw zero-add (same (j / 32) (omega arith)) in
-    rw word
+in_array c v same j l = rw (same (j / 32) (omega arith))
 
-module _ (h : History) (c s : List ℕ) (n : ℕ) (few : n ≤ set_limit) (words : length s ≤ n) where
+module _ (h : History) (c s : List ℕ) (words : length s ≤ set_limit) where
   -- contests of a round or of a session: all are defined
-  pub within-defined : ((k : ℕ) → k < set_limit → get_or c k 0 ≡ defined_word h k) → all_in s (member (part 0 n c)) ≡ all_in s (λ j. any (defines j) h)
+  pub within-defined : ((k : ℕ) → k < set_limit → get_or c k 0 ≡ defined_word h k) → all_in s (member c) ≡ all_in s (λ j. any (defines j) h)
   within-defined same =
-      all_in-ext s (member (part 0 n c)) (λ j. any (defines j) h)
-      (λ j l t. in_array c (defined_word h) same n few j (omega arith) ∙ member-defined h j)
+      all_in-ext s (member c) (λ j. any (defines j) h)
+      (λ j l t. in_array c (defined_word h) same j (omega arith) ∙ member-defined h j)
 
   -- contests of a ballot: an open round enables all
   pub within-enabled : (t : ℕ) → Every RoundSmall h → ((k : ℕ) → k < set_limit → get_or c k 0 ≡ enabled_word t h k)
-      → all_in s (member (part 0 n c)) ≡ all_in s (λ j. any (enables t j) (rounds h))
+      → all_in s (member c) ≡ all_in s (λ j. any (enables t j) (rounds h))
   within-enabled t small same =
-      all_in-ext s (member (part 0 n c)) (λ j. any (enables t j) (rounds h))
-      (λ j l u. in_array c (enabled_word t h) same n few j (omega arith) ∙ member-enabled t h j small)
+      all_in-ext s (member c) (λ j. any (enables t j) (rounds h))
+      (λ j l u. in_array c (enabled_word t h) same j (omega arith) ∙ member-enabled t h j small)

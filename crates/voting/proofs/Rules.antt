@@ -208,12 +208,12 @@ module _ {board index : List ℕ} {s : State} {c : Known} {sets : ℕ} (b : AtBa
   -- both
   pub may-vote-is : (t : ℕ) (own : Bool) (enabled : List ℕ) → t ≡ pair (part c.item.time 2 board)
       → own ≡ all_in contests (member (own_contests board s)) → ((k : ℕ) → k < 8 → get_or enabled k 0 ≡ enabled_word t (h a) k)
-      → (own && all_in contests (member (part 0 sets enabled))) ≡ all_in contests (may_vote (h a) (i a))
+      → (own && all_in contests (member enabled)) ≡ all_in contests (may_vote (h a) (i a))
   unfolding may_vote
   may-vote-is t own enabled d e u =
-      let words : length contests ≤ sets = omega (arith, length_part c.item.content sets board set-within) in
+      let words : length contests ≤ 8 = omega (arith, sets-few, length_part c.item.content sets board set-within) in
       let time-is : t ≡ time (i a) = d ∙ at-time a in
-      let opened = within-enabled (h a) enabled contests sets sets-few words t (rounds-small a.kept.passed) u in
+      let opened = within-enabled (h a) enabled contests words t (rounds-small a.kept.passed) u in
       rw (e, opened, time-is) (sym (all_in-and contests (member (own_contests board s)) (λ j. any (enables (time (i a)) j) (rounds (h a)))))
 
   pub not_own : (own : Bool) → own ≡ all_in contests (member (own_contests board s)) → own ≡ false → false ≡ all_in contests (may_vote (h a) (i a))

@@ -76,7 +76,7 @@ fn ballot_ok(board: &[u32], index: &[u32], s: State, c: Known) -> bool
     let item = c.item;
     let format = Format::of(board);
     let sets = format.sets;
-    let cryptograms = words::wide(sets::count(board, item.content, sets));
+    let cryptograms = words::wide(sets::count(words::part(board, item.content, sets)));
     if item.head.count != sets + cryptograms * format.cryptogram {
         return false;
     }
@@ -97,7 +97,7 @@ fn may_vote(board: &[u32], index: &[u32], s: State, c: Known, sets: usize) -> bo
     }
     let time = words::pair_at(board, c.item.time);
     let enabled = rounds::enabled(board, index, s, time);
-    sets::is_within(board, c.item.content, sets, &enabled, 0)
+    sets::is_within(words::part(board, c.item.content, sets), &enabled)
 }
 
 // Whether the session has each contest of a ballot. Without a session there is none.
@@ -105,17 +105,13 @@ fn is_own(board: &[u32], index: &[u32], s: State, c: Known, sets: usize) -> bool
     requires { AtBallot board.now index.now s c sets }
     ensures { result ≡ all_in (part c.item.content sets board.now) (member (own_contests board.now s)) }
 {
+    let contests = words::part(board, c.item.content, sets);
     if c.session == 0 {
-        return sets::is_empty(board, c.item.content, sets);
+        return sets::is_empty(contests);
     }
     let session = index::entry(board, index, s.items, c.session).item;
-    sets::is_within(
-        board,
-        c.item.content,
-        sets,
-        board,
-        session.content + Content::SESSION_CONTESTS,
-    )
+    let own = words::part(board, session.content + Content::SESSION_CONTESTS, sets);
+    sets::is_within(contests, own)
 }
 
 // Whether the low 16 bits of the last word of each of n cryptograms of a size behind a set are zero.

@@ -31,42 +31,20 @@ pub fn pair_at(a: &[u32], i: usize) -> u64
     joined(a[i], a[i + 1])
 }
 
-// Whether the n words of a at i are the n words of b at j. Four a turn: n is a format's width, which the compiler does not know.
-pub fn same_words(a: &[u32], i: usize, b: &[u32], j: usize, n: usize) -> bool
-    requires { (i + n ≤ length a.now) × (j + n ≤ length b.now) }
-    ensures { result ≡ same_words (part i n a.now) (part j n b.now) }
+// The n words of a at i, as the model's `part`: callers' proofs keep that word, and owe one bound in place of a slice's three.
+pub fn part(a: &[u32], i: usize, n: usize) -> &[u32]
+    requires { i + n ≤ length a.now }
+    ensures value { result.now ≡ part i n a.now }
+    ensures len { length result.now ≡ n }
 {
-    let mut k = 0;
-    while k + 4 <= n {
-        if !same_four(a, i + k, b, j + k) {
-            return false;
-        }
-        k += 4;
-    }
-    same_rest(a, i + k, b, j + k, n - k)
+    &a[i..i + n]
 }
 
-// Whether the four words of a at i are those of b at j. With `&` there is no jump between them, and the compiler compares all at once.
-fn same_four(a: &[u32], i: usize, b: &[u32], j: usize) -> bool
-    requires { (i + 4 ≤ length a.now) × (j + 4 ≤ length b.now) }
-    ensures { result ≡ same_words (part i 4 a.now) (part j 4 b.now) }
+// Whether two runs of words are the same.
+pub fn same_words(a: &[u32], b: &[u32]) -> bool
+    ensures { result ≡ same_words a.now b.now }
 {
-    (a[i] == b[j]) & (a[i + 1] == b[j + 1]) & (a[i + 2] == b[j + 2]) & (a[i + 3] == b[j + 3])
-}
-
-// Whether the n words of a at i are the n words of b at j, one by one.
-fn same_rest(a: &[u32], i: usize, b: &[u32], j: usize, n: usize) -> bool
-    requires { (i + n ≤ length a.now) × (j + n ≤ length b.now) }
-    ensures { result ≡ same_words (part i n a.now) (part j n b.now) }
-{
-    let mut k = 0;
-    while k < n {
-        if a[i + k] != b[j + k] {
-            return false;
-        }
-        k += 1;
-    }
-    true
+    a == b
 }
 
 // Whether words are not whole parts of one size, or more parts than a limit.
@@ -85,37 +63,21 @@ pub fn put(words: &[u32], buffer: &mut [u32], at: usize)
     requires { at + length words.now ≤ length buffer.old }
     ensures { buffer.new ≡ sets buffer.old at words.now }
 {
-    let mut i = 0;
-    while i < words.len() {
-        buffer[at + i] = words[i];
-        i += 1;
-    }
+    buffer[at..at + words.len()].copy_from_slice(words);
 }
 
-// Whether the n words of a at i are zeros.
-pub fn is_zero(a: &[u32], i: usize, n: usize) -> bool
-    requires { i + n ≤ length a.now }
-    ensures { result ≡ same_words (part i n a.now) (replicate n 0) }
+// Whether every word is zero.
+pub fn is_zero(a: &[u32]) -> bool
+    ensures { result ≡ same_words a.now (replicate (length a.now) 0) }
 {
-    let mut k = 0;
-    while k < n {
-        if a[i + k] != 0 {
-            return false;
-        }
-        k += 1;
-    }
-    true
+    a.iter().all(|word| *word == 0)
 }
 
 // Sets every word to zero.
 pub fn clear(s: &mut [u32])
     ensures { s.new ≡ replicate (length s.old) 0 }
 {
-    let mut i = 0;
-    while i < s.len() {
-        s[i] = 0;
-        i += 1;
-    }
+    s.fill(0);
 }
 
 // Writes the words of the bytes into the first words of w: a word for each four bytes; one to three bytes at the end are left out.

@@ -3,6 +3,8 @@ use mathlib.Core.Path.{ap, ◌∙◌}
 use native.Mathlib.Omega.{arith}
 use lib.Bits.{bit_or}
 use lib.ListN.{get_or}
+use Prim.Native.Nat.{ℕ}
+use mathlib.Core.List.{List}
 use Rattle.index.specs.Passed.{history_of}
 use Rattle.index.proofs.Had.{kept-had}
 use Rattle.rounds.proofs.Round.{force-range, round-places, round_under, contests-open, contests-shut, contests-none}
@@ -31,13 +33,17 @@ pub overflow_sub-item : goal.overflow_sub-item
 overflow_sub-item c =
     omega (arith, round-places (round_under (kept-had c.args.passed.now.kept) c.requires c.if-slot-eq0.false (rw c.wide.ensures at c.entry-e.ensures)))
 
+pub part-contests-requires : goal.part-contests-requires
+part-contests-requires c =
+    omega (arith, round-places (round_under (kept-had c.args.passed.now.kept) c.requires c.if-slot-eq0.false (rw c.wide.ensures at c.entry-e.ensures)))
+
 pub union-requires : goal.union-requires
 union-requires c =
-    let all = round-places (round_under (kept-had c.args.passed.now.kept) c.requires c.if-slot-eq0.false (rw c.wide.ensures at c.entry-e.ensures)) in
-    (omega arith, omega arith)
+    omega (arith, round-places (round_under (kept-had c.args.passed.now.kept) c.requires c.if-slot-eq0.false (rw c.wide.ensures at c.entry-e.ensures)))
 
 pub returns : goal.returns
 returns c i l =
     c.union.ensures i l
-    ∙ ap (bit_or (get_or c.args.set i 0)) (contests-open (kept-had c.args.passed.now.kept) c.requires c.if-slot-eq0.false (rw c.wide.ensures at c.entry-e.ensures)
+    ∙ ap (bit_or (get_or c.args.set i 0)) (ap (λ (w : List ℕ). get_or w i 0) c.part-contests.ensures.value
+    ∙ contests-open (kept-had c.args.passed.now.kept) c.requires c.if-slot-eq0.false (rw c.wide.ensures at c.entry-e.ensures)
     c.args.time _ c.is_open.ensures c.if-not-is_open.false i)

@@ -1,12 +1,8 @@
 -- `is_empty` meets its contract. Assumes nothing.
-use Prim.Native.Nat.{◌+◌}
-use mathlib.Core.Path.{◌∙◌}
 use native.Mathlib.Omega.{arith}
-use Rattle.sets.proofs.Sets.{empty-at}
+use mathlib.Core.Path.{◌∙◌}
+use Rattle.sets.proofs.Sets.{size-zero}
 use Rattle.sets.proofs.is_empty.Goals as goal
 
 pub returns : goal.returns
-returns c =
-    let x = c.args in
-    c.is_zero.ensures
-    ∙ empty-at x.a.now x.at x.n (λ k l. omega (arith, c.type_inv.a (x.at + k))) c.requires
+returns c = c.is_zero.ensures ∙ size-zero c.args.set.now (λ k. omega (arith, c.type_inv.set k))

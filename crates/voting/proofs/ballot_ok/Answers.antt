@@ -1,5 +1,5 @@
 -- `ballot_ok` meets its contract. Assumes nothing.
-use mathlib.Core.Path.{◌≡◌, refl, ◌∙◌}
+use mathlib.Core.Path.{◌≡◌, refl, ap, ◌∙◌}
 use mathlib.Core.List.{List}
 use Prim.Native.Nat.{ℕ, ◌*◌, ◌≤◌}
 use native.Mathlib.Omega.{arith}
@@ -43,49 +43,50 @@ few n sets each l m k = words-few n each (omega arith) k
 pub returns-then-c-ne-BALLOT : goal.returns-then-c-ne-BALLOT
 returns-then-c-ne-BALLOT c = ballot-other c.requires c.if-c-ne-BALLOT.true
 
+pub part-requires : goal.part-requires
+part-requires c = set-within (at-ballot c.requires c.if-c-ne-BALLOT.false c.of-format.ensures)
+
 pub count-requires : goal.count-requires
-count-requires c =
-    let b = at-ballot c.requires c.if-c-ne-BALLOT.false c.of-format.ensures in
-    (set-within b, sets-few b)
+count-requires c = omega (arith, sets-few (at-ballot c.requires c.if-c-ne-BALLOT.false c.of-format.ensures))
 
 pub overflow_mul-cryptograms : goal.overflow_mul-cryptograms
 overflow_mul-cryptograms c =
     let b = sets-few (at-ballot c.requires c.if-c-ne-BALLOT.false c.of-format.ensures) in
     let f = c.of-format.result in
-    let is = c.wide-cryptograms.ensures ∙ c.count.ensures in
+    let is = c.wide-cryptograms.ensures ∙ c.count.ensures ∙ ap size c.part.ensures.value in
     record { fits = omega (arith, few c.wide-cryptograms.result f.sets f.cryptogram (few-contests _ _ _ _ is) b (size_is _ c.of-format.ensures).2) }
 
 pub overflow_add-sets : goal.overflow_add-sets
 overflow_add-sets c =
     let b = sets-few (at-ballot c.requires c.if-c-ne-BALLOT.false c.of-format.ensures) in
     let f = c.of-format.result in
-    let is = c.wide-cryptograms.ensures ∙ c.count.ensures in
+    let is = c.wide-cryptograms.ensures ∙ c.count.ensures ∙ ap size c.part.ensures.value in
     record { fits = omega (arith, b, few c.wide-cryptograms.result f.sets f.cryptogram (few-contests _ _ _ _ is) b (size_is _ c.of-format.ensures).2) }
 
 pub returns-then-item-sets : goal.returns-then-item-sets
 returns-then-item-sets c =
     let b = at-ballot c.requires c.if-c-ne-BALLOT.false c.of-format.ensures in
-    let is = c.wide-cryptograms.ensures ∙ c.count.ensures in
+    let is = c.wide-cryptograms.ensures ∙ c.count.ensures ∙ ap size c.part.ensures.value in
     rw (ne_eqb _ _ c.if-item-sets.true) at (ballot-is b _ (size_is _ c.of-format.ensures).0 c.wide-cryptograms.result _ is refl)
 
 pub returns-then-not-may_vote : goal.returns-then-not-may_vote
 returns-then-not-may_vote c =
     let b = at-ballot c.requires c.if-c-ne-BALLOT.false c.of-format.ensures in
-    let is = c.wide-cryptograms.ensures ∙ c.count.ensures in
+    let is = c.wide-cryptograms.ensures ∙ c.count.ensures ∙ ap size c.part.ensures.value in
     rw (eq-eqb _ _ c.if-item-sets.false, c.if-not-may_vote.true) at
     (ballot-is b _ (size_is _ c.of-format.ensures).0 c.wide-cryptograms.result c.may_vote.result is c.may_vote.ensures)
 
 pub cryptograms_ok-requires : goal.cryptograms_ok-requires
 cryptograms_ok-requires c =
     let b = at-ballot c.requires c.if-c-ne-BALLOT.false c.of-format.ensures in
-    let is = c.wide-cryptograms.ensures ∙ c.count.ensures in
+    let is = c.wide-cryptograms.ensures ∙ c.count.ensures ∙ ap size c.part.ensures.value in
     let k = size_is _ c.of-format.ensures in
     (content-within b.at, sets-few b, k.1, k.2, few-contests _ _ _ _ is)
 
 pub returns : goal.returns
 returns c =
     let b = at-ballot c.requires c.if-c-ne-BALLOT.false c.of-format.ensures in
-    let is = c.wide-cryptograms.ensures ∙ c.count.ensures in
+    let is = c.wide-cryptograms.ensures ∙ c.count.ensures ∙ ap size c.part.ensures.value in
     c.cryptograms_ok.ensures
     ∙ rw (eq-eqb _ _ c.if-item-sets.false, c.if-not-may_vote.false) at
     (ballot-is b _ (size_is _ c.of-format.ensures).0 c.wide-cryptograms.result c.may_vote.result is c.may_vote.ensures)

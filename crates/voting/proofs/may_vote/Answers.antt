@@ -13,14 +13,17 @@ returns-then-not-is_own c = not_own c.requires _ c.is_own.ensures c.if-not-is_ow
 pub pair_at-time-requires : goal.pair_at-time-requires
 pair_at-time-requires c = let places = at_places c.requires.at in omega arith
 
+pub part-requires : goal.part-requires
+part-requires c = set-within c.requires
+
 pub is_within-requires : goal.is_within-requires
 is_within-requires c =
     let eight : length c.enabled-enabled.result ≡ 8 = search rules in
-    (set-within c.requires, omega (arith, sets-few c.requires))
+    omega (arith, sets-few c.requires)
 
 pub returns : goal.returns
 returns c =
-    c.is_within.ensures
+    rw c.part.ensures.value at c.is_within.ensures
     ∙ rw c.if-not-is_own.false at
     (may-vote-is c.requires c.pair_at-time.result c.is_own.result c.enabled-enabled.result
     c.pair_at-time.ensures c.is_own.ensures c.enabled-enabled.ensures)

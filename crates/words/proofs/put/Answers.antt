@@ -1,17 +1,14 @@
--- `put` meets its contract. The invariant: the first i words are written. Assumes nothing.
-use mathlib.Core.Path.{refl, ◌∙◌}
-use lib.Seq.{take_all}
-use Rattle.words.proofs.Writing.{sets_more}
+-- `words::put` meets its contract. Assumes nothing.
+use mathlib.Core.Path.{sym, ◌∙◌}
 use native.Mathlib.Omega.{arith}
-use borrow.Author.Rules.{rules}
+use lib.ListN.{length}
+use lib.Seq.{sets-eq, take-length}
+use Rattle.std.proofs.lemmas.Slice.{put_mid-paste}
 use Rattle.words.proofs.put.Goals as goal
-
-pub loop-i-preserved : goal.loop-i-preserved
-loop-i-preserved c =
-    let x = c.args in
-    (search rules, rw c.loop-i.invariant.1 (sets_more x.buffer.now x.words.now x.at c.loop-i.i _ refl (omega arith)), search rules)
 
 pub returns : goal.returns
 returns c =
     let x = c.args in
-    c.loop-i.invariant.1 ∙ rw (take_all c.loop-i.i x.words.now (omega arith))
+    let n = length x.words.now in
+    put_mid-paste _ _ _ _ x.words.now n c.copy_from_slice.ensures.after (omega arith) (omega arith)
+    ∙ rw take-length (sym (sets-eq x.words.now x.buffer.now x.at c.requires))
