@@ -5,8 +5,6 @@ use mathlib.Core.Path.{◌≡◌}
 use mathlib.Core.Bool.{Bool, true, ◌&&◌}
 use mathlib.Core.List.{List, [], ◌∷◌}
 use lib.Count.{ones}
-use lib.ListN.{length}
-use lib.Seq.{take_all}
 use lib.Dec.{eqb, leb, ltb}
 use Rattle.model.specs.Lists.{◌⇒◌, part}
 use Rattle.model.specs.Words.{same_words, all_in}
@@ -27,10 +25,6 @@ use Rattle.state.specs.Stands.{AtItem}
 use Rattle.state.proofs.At.{at_words, at-content-words}
 use Rattle.fields.proofs.Words.{is-type, not-type, content-length}
 
-whole : (d : List ℕ) → length d ≡ fingerprint_size → part 0 fingerprint_size d ≡ d
-unfolding part
-whole d l = take_all fingerprint_size d (omega arith)
-
 module _ {board index : List ℕ} {s : State} {c : Known} (a : AtItem board index s c) where
   abbrev h : History
   h = before board s.items
@@ -48,12 +42,12 @@ module _ {board index : List ℕ} {s : State} {c : Known} (a : AtItem board inde
   unfolding has_words
   fingerprint-words q = let words = at_words a extraction_type 8 8 tt q in omega arith
 
-  pub fingerprint-is : c.item.head.code ≡ extraction_type → (d : List ℕ) → length d ≡ fingerprint_size → d ≡ sha256_words (contents (counted h))
-      → same_words (part c.item.content fingerprint_size board) (part 0 fingerprint_size d) ≡ fingerprint_ok (format_of board) h i
+  pub fingerprint-is : c.item.head.code ≡ extraction_type → (d : List ℕ) → d ≡ sha256_words (contents (counted h))
+      → same_words (part c.item.content fingerprint_size board) d ≡ fingerprint_ok (format_of board) h i
   unfolding fingerprint_ok ◌⇒◌
-  fingerprint-is q d l e =
+  fingerprint-is q d e =
       let here : part c.item.content fingerprint_size board ≡ i.content = rw (fingerprint-words q) at (at-content-words a) in
-      rw (is-type a extraction_type q, whole d l, here, e)
+      rw (is-type a extraction_type q, here, e)
 
   -- ---- 34, confirmation
 

@@ -36,7 +36,10 @@ fn fingerprint_ok(board: &[u32], index: &[u32], ballots: &[u32], s: State, c: Kn
         return true;
     }
     let fingerprint = tally::fingerprint(board, index, ballots, s);
-    words::same_words(board, c.item.content, &fingerprint, 0, Size::FINGERPRINT)
+    words::same_words(
+        words::part(board, c.item.content, Size::FINGERPRINT),
+        &fingerprint,
+    )
 }
 
 // 34, confirmation: words for each trustee, numbers below m, and at least t of them.

@@ -153,5 +153,8 @@ fn is_key(board: &[u32], verdicts: &[u32], at: usize, item: Item, k: usize) -> b
     if item.head.count < k + Size::KEY {
         return false;
     }
-    words::same_words(verdicts, at, board, item.content + k, Size::KEY)
+    words::same_words(
+        words::part(verdicts, at, Size::KEY),
+        words::part(board, item.content + k, Size::KEY),
+    )
 }

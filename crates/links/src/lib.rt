@@ -25,7 +25,10 @@ pub fn address_ok(board: &[u32], item: Item) -> bool
     let place = item.place;
     let end = item.signature;
     let digest = digests::digest(format.curve, &board[place..end]);
-    words::same_words(&digest, 0, board, item.address, format.address)
+    words::same_words(
+        words::part(&digest, 0, format.address),
+        words::part(board, item.address, format.address),
+    )
 }
 
 // 8 broken history: whether a main item names the main item before it, and a hidden item its parent.
@@ -36,15 +39,15 @@ pub fn previous_ok(next: &Candidate) -> bool
     let item = next.known.item;
     let last = next.state.last;
     let width = Format::of(board).address;
-    let at = item.previous;
+    let previous = words::part(board, item.previous, width);
     if item.head.kind != Head::MAIN {
-        return words::same_words(board, at, board, item.parent, width);
+        return words::same_words(previous, words::part(board, item.parent, width));
     }
     if last == 0 {
-        return words::is_zero(board, at, width);
+        return words::is_zero(previous);
     }
     let e = next.entry(last);
-    words::same_words(board, at, board, e.item.address, width)
+    words::same_words(previous, words::part(board, e.item.address, width))
 }
 
 // 9 orphan: whether the parent is found, and is as listed.
@@ -57,7 +60,7 @@ pub fn parent_ok(listed: &ListedItem) -> bool
     match listed.row.parent {
         ParentRule::Zeros => {
             let board = next.board;
-            words::is_zero(board, next.known.item.parent, Format::of(board).address)
+            words::is_zero(words::part(board, next.known.item.parent, Format::of(board).address))
         }
         ParentRule::LatestConfig => parent != 0 && parent == next.state.config,
         ParentRule::OfType(code) => parent != 0 && next.entry(parent).item.head.code == code,

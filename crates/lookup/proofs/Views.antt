@@ -74,11 +74,9 @@ module _ {board : List ℕ} {e : Entry} {c : Known} (is : IsKnown board e c) whe
   known-width = address-width board e.place (known-item is)
 
   pub addressed-same : (m : Bool) (address : List ℕ) → length address ≡ (format_of board).address → not (beq (eqb c.item.head.kind main_kind) m) ≡ false
-      → {r : Bool} → r ≡ same_words (part c.item.address (length address) board) (part 0 (length address) address) → r ≡ addressed m address e
-  unfolding part
+      → {r : Bool} → r ≡ same_words (part c.item.address (length address) board) address → r ≡ addressed m address e
   addressed-same m address width q s =
-      let all : take (length address) address ≡ address = take_all (length address) address (le_refl (length address)) in
-      s ∙ rw (all, width, ← known-main is, not-false (beq (eqb c.item.head.kind main_kind) m) q, known-address is)
+      s ∙ rw (width, ← known-main is, not-false (beq (eqb c.item.head.kind main_kind) m) q, known-address is)
 
   pub session-other : (voter : ℕ) → c.item.head.code ≢ session_type → false ≡ session_of voter e
   session-other voter n = rw (← known-code is, ne_eqb c.item.head.code session_type n)

@@ -95,7 +95,10 @@ fn is_noted(board: &[u32], index: &[u32], items: usize, k: usize, notes: &[u32],
         return false;
     }
     let width = e.item.end - e.item.address;
-    words::same_words(board, e.item.address, notes, at, width)
+    words::same_words(
+        words::part(board, e.item.address, width),
+        words::part(notes, at, width),
+    )
 }
 
 // The number of the first main item with the address that stands at a place of the notes; 0 where there is none. The chain of its bucket

@@ -42,7 +42,7 @@ fn same_runs(a: &[u32], i: usize, n: usize, b: &[u32], j: usize, m: usize) -> bo
     if n != m {
         return false;
     }
-    words::same_words(a, i, b, j, n)
+    words::same_words(words::part(a, i, n), words::part(b, j, n))
 }
 
 // The main item of a main number.

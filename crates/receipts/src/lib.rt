@@ -90,10 +90,12 @@ fn is_receipt(board: &[u32], e: Known, receipts: &[u32], k: usize) -> bool
     let address = e.item.end - e.item.address;
     let signature = e.item.address - e.item.signature;
     let at = (signature + address) * k;
-    if !words::same_words(board, e.item.address, receipts, at + signature, address) {
+    let given = words::part(receipts, at + signature, address);
+    if !words::same_words(words::part(board, e.item.address, address), given) {
         return false;
     }
-    words::same_words(board, e.item.signature, receipts, at, signature)
+    let given = words::part(receipts, at, signature);
+    words::same_words(words::part(board, e.item.signature, signature), given)
 }
 
 // Gives a cast's main number to each of its receipts that has no answer yet. They are in the bucket of its address.

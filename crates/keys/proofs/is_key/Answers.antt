@@ -9,5 +9,5 @@ returns-then-item-k c =
 
 pub returns : goal.returns
 returns c =
-    c.same_words.ensures
+    rw (c.part.ensures.value, c.part-2.ensures.value) at c.same_words.ensures
     ∙ key-within c.args.board.now c.args.verdicts.now c.args.at c.args.item.content c.args.item.head.count c.args.k c.requires.0 c.if-item-k.false

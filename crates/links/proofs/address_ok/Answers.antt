@@ -1,7 +1,9 @@
 -- `address_ok` meets its contract: the slice up to the signature is the hashed words. Assumes nothing.
 use mathlib.Core.Path.{◌∙◌}
 use lib.ListN.{length-take, length-drop}
-use Rattle.format.proofs.Traits.{knows}
+use lib.ListN.{length}
+use mathlib.Core.Path.{◌≡◌}
+use Rattle.format.proofs.Traits.{knows, sizes}
 use Rattle.links.proofs.Checks.{hashed-in, address_same}
 use native.Mathlib.Omega.{arith}
 use borrow.Author.Rules.{rules}
@@ -23,13 +25,18 @@ pub digest-digest-requires : goal.digest-digest-requires
 digest-digest-requires c =
     let b = hashed-in c.args.board.now c.requires.0 c.requires.1 in simp (length-take, length-drop) (omega arith)
 
-pub same_words-requires : goal.same_words-requires
-same_words-requires c =
+pub part-requires : goal.part-requires
+part-requires c =
+    let long : length c.digest-digest.result ≡ 16 = search rules in
+    omega (arith, knows c.of-format.ensures, sizes c.args.board.now)
+
+pub part-requires-2 : goal.part-requires-2
+part-requires-2 c =
     let b = hashed-in c.args.board.now c.requires.0 c.requires.1 in
     let w = knows c.of-format.ensures in
-    (search rules, omega arith)
+    omega arith
 
 pub returns : goal.returns
 returns c =
-    c.same_words.ensures
+    rw (c.part.ensures.value, c.part-2.ensures.value) at c.same_words.ensures
     ∙ address_same c.args.board.now c.args.item c.of-format.result c.digest-digest.result c.requires.0 c.requires.1 c.of-format.ensures c.digest-digest.ensures

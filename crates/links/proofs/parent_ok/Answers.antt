@@ -8,8 +8,8 @@ use native.Mathlib.Omega.{arith}
 use borrow.Author.Tests.{eq-eqb}
 use Rattle.links.proofs.parent_ok.Goals as goal
 
-pub is_zero-requires : goal.is_zero-requires
-is_zero-requires c =
+pub part-requires : goal.part-requires
+part-requires c =
     let p = at_places (at-had c.args.listed.now.candidate.now.at_item) in
     let w = knows c.of.ensures in
     omega arith
@@ -17,7 +17,7 @@ is_zero-requires c =
 pub returns-in-Zeros : goal.returns-in-Zeros
 returns-in-Zeros c =
     rw c.in-Zeros.is
-    (c.is_zero.ensures ∙ parent-zeros (at-had c.args.listed.now.candidate.now.at_item) _ (knows c.of.ensures).address)
+    (rw (c.part.ensures.len, c.part.ensures.value) at c.is_zero.ensures ∙ parent-zeros (at-had c.args.listed.now.candidate.now.at_item) _ (knows c.of.ensures).address)
 
 pub returns-then-parent-ne0 : goal.returns-then-parent-ne0
 returns-then-parent-ne0 c =

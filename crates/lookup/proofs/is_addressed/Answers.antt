@@ -7,8 +7,8 @@ use Rattle.lookup.proofs.is_addressed.Goals as goal
 pub returns-then-item-main : goal.returns-then-item-main
 returns-then-item-main c = addressed-other c.entry.ensures _ _ c.if-item-main.true
 
-pub same_words-requires : goal.same_words-requires
-same_words-requires c = rw c.requires.2 ((known-within c.entry.ensures).address, omega arith)
+pub part-requires : goal.part-requires
+part-requires c = rw c.requires.2 (known-within c.entry.ensures).address
 
 pub returns : goal.returns
-returns c = addressed-same c.entry.ensures _ _ c.requires.2 c.if-item-main.false c.same_words.ensures
+returns c = addressed-same c.entry.ensures _ _ c.requires.2 c.if-item-main.false (rw c.part.ensures.value at c.same_words.ensures)

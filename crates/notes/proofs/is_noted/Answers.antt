@@ -12,8 +12,11 @@ returns-then-e-ne-MAIN c = addressed-other c.entry-e.ensures true _ (rw (ne_eqb 
 pub overflow_sub-width : goal.overflow_sub-width
 overflow_sub-width c = omega (arith, known-end c.entry-e.ensures)
 
-pub same_words-requires : goal.same_words-requires
-same_words-requires c = rw (known-width c.entry-e.ensures) ((known-within c.entry-e.ensures).address, c.requires.le_k.2)
+pub part-requires : goal.part-requires
+part-requires c = rw (known-width c.entry-e.ensures) (known-within c.entry-e.ensures).address
+
+pub part-requires-2 : goal.part-requires-2
+part-requires-2 c = rw (known-width c.entry-e.ensures) c.requires.le_k.2
 
 pub returns : goal.returns
-returns c = addressed-same c.entry-e.ensures true _ _ (rw (eq-eqb _ _ c.if-e-ne-MAIN.false)) c.same_words.ensures
+returns c = addressed-same c.entry-e.ensures true _ _ (rw (eq-eqb _ _ c.if-e-ne-MAIN.false)) (rw (c.part.ensures.value, c.part-2.ensures.value) at c.same_words.ensures)

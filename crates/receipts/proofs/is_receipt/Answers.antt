@@ -25,23 +25,26 @@ overflow_add-at-2 c =
     let at = placed c.requires.known.1 (signature-width c.requires.known.0) (known-width c.requires.known.0) c.requires.k_bound in
     search (rules, at.place)
 
-pub same_words-requires : goal.same_words-requires
-same_words-requires c =
-    let is = c.requires.known.0 in
-    let at = placed c.requires.known.1 (signature-width c.requires.known.0) (known-width c.requires.known.0) c.requires.k_bound in
-    (rw (known-width is) (known-within is).address, at.end)
+pub part-given-requires : goal.part-given-requires
+part-given-requires c =
+    (placed c.requires.known.1 (signature-width c.requires.known.0) (known-width c.requires.known.0) c.requires.k_bound).end
+
+pub part-requires : goal.part-requires
+part-requires c = let is = c.requires.known.0 in rw (known-width is) (known-within is).address
 
 pub returns-then-not-same_words : goal.returns-then-not-same_words
 returns-then-not-same_words c =
     let is = c.requires.known.0 in
-    address-other is _ c.args.k (signature-width is) (known-width is) c.same_words.ensures (ap not c.if-not-same_words.true)
+    address-other is _ c.args.k (signature-width is) (known-width is) (rw (c.part.ensures.value, c.part-given.ensures.value) at c.same_words.ensures) (ap not c.if-not-same_words.true)
 
-pub same_words-requires-2 : goal.same_words-requires-2
-same_words-requires-2 c =
-    let is = c.requires.known.0 in
-    (rw (signature-width is) (known-within is).signature, within (placed c.requires.known.1 (signature-width c.requires.known.0) (known-width c.requires.known.0) c.requires.k_bound))
+pub part-given-requires-2 : goal.part-given-requires-2
+part-given-requires-2 c =
+    within (placed c.requires.known.1 (signature-width c.requires.known.0) (known-width c.requires.known.0) c.requires.k_bound)
+
+pub part-requires-2 : goal.part-requires-2
+part-requires-2 c = let is = c.requires.known.0 in rw (signature-width is) (known-within is).signature
 
 pub returns : goal.returns
 returns c =
     let is = c.requires.known.0 in
-    address_same is _ c.args.k (signature-width is) (known-width is) c.same_words.ensures (ap not c.if-not-same_words.false) c.same_words-2.ensures
+    address_same is _ c.args.k (signature-width is) (known-width is) (rw (c.part.ensures.value, c.part-given.ensures.value) at c.same_words.ensures) (ap not c.if-not-same_words.false) (rw (c.part-2.ensures.value, c.part-given-2.ensures.value) at c.same_words-2.ensures)
