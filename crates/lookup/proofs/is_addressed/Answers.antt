@@ -1,5 +1,4 @@
 -- `is_addressed` meets its contract: the two returns are the two cases of the kind. Assumes nothing.
-use native.Mathlib.Omega.{arith}
 use Rattle.index.proofs.Reading.{known-within}
 use Rattle.lookup.proofs.Views.{addressed-other, addressed-same}
 use Rattle.lookup.proofs.is_addressed.Goals as goal
