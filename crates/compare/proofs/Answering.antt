@@ -10,7 +10,7 @@ use Rattle.model.specs.Refusal.{no_such_item}
 use Rattle.model.specs.History.{History, main, main_items}
 use Rattle.model.specs.Audit.{accepted}
 use Rattle.model.specs.Report.{outside}
-use Rattle.model.specs.Compare.{Comparison, compare}
+use Rattle.model.specs.Compare.{compare}
 use Rattle.model.specs.Comparing.{ComparingAnswer, later_board, refused_board, compared, answer_later}
 use Rattle.model.proofs.Tests.{tests, neither, or_left, or_right, eq→eqb, if_yes, if_no}
 use Rattle.model.proofs.Unchecked.{length-history}
@@ -42,15 +42,10 @@ module _ (g : History) (later : List ℕ) (items mains number : ℕ) (all : main
   unfolding answer_later
   some-asked n l e = e ∙ sym (if_no (outside number (count main h)) _ _ (simp neither (omega (arith, tests))))
 
--- what comparing the pairs asks, and finds, by the numbers as they are read
-module _ {board index : List ℕ} {n m i : ℕ} (a : Accepted board index n m) (same : i ≡ n) where
-  pub pairs-kept : {k : ℕ} → k ≡ m → Kept board index i × (1 ≤ k) × (k ≡ count main (before board i))
-  pairs-kept e = rw (same, e) (a.kept, a.opened, a.mains)
+-- what comparing the pairs asks
+module _ {board index : List ℕ} {n m : ℕ} (a : Accepted board index n m) where
+  pub pairs-kept : Kept board index n × (1 ≤ m) × (m ≡ count main (before board n))
+  pairs-kept = (a.kept, a.opened, a.mains)
 
-  pub pairs-later : {number : ℕ} → number ≢ 0 → number ≤ m → Kept board index i × Numbered board i number
-  pairs-later z l = rw same (a.kept, record { some = omega arith; few = omega (arith, a.mains) })
-
-pub pairs-found : (kept later : List ℕ) (number : ℕ) {i n j m : ℕ} {a : ComparingAnswer} {c : Comparison} → a ≡ compared c
-    → c ≡ compare (main_items (before kept i)) (main_items (before later j)) number → i ≡ n → j ≡ m
-    → a ≡ compared (compare (main_items (before kept n)) (main_items (before later m)) number)
-pairs-found kept later number p q e f = p ∙ ap compared q ∙ rw (e, f)
+  pub pairs-later : {number : ℕ} → number ≢ 0 → number ≤ m → Kept board index n × Numbered board n number
+  pairs-later z l = (a.kept, record { some = omega arith; few = omega (arith, a.mains) })
