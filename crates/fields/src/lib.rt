@@ -3,13 +3,15 @@
 
 ghost use Rattle.std.specs.Prelude.{◌≡◌, ◌+◌, ◌≤◌, length, get_or};
 ghost use Rattle.model.specs.Lists.{part};
-ghost use Rattle.model.specs.Words.{pair};
 ghost use Rattle.model.specs.Item.{word};
 ghost use Rattle.model.specs.History.{item_no};
-ghost use Rattle.index.specs.Kept.{before, Kept};
+ghost use Rattle.index.specs.Passed.{history_of};
+ghost use Rattle.state.specs.Reached.{item_at};
 
 use format::item::Item;
 use format::size::Size;
+use index::passed::Passed;
+use state::candidate::Candidate;
 
 pub mod range;
 
@@ -47,37 +49,36 @@ impl Content {
     pub const SET: usize = 0;
 }
 
-// Content word k of an item, 0 where it has none.
-pub fn word(board: &[u32], item: Item, k: usize) -> u32
+// The content words of an item of the board.
+pub fn content_words(board: &[u32], item: Item) -> &[u32]
     requires { item.content + item.head.count ≤ length board.now }
-    ensures { result ≡ get_or (part item.content item.head.count board.now) k 0 }
+    ensures { result.now ≡ part item.content item.head.count board.now }
 {
-    if item.head.count <= k {
-        return 0;
-    }
-    let at = item.content + k;
-    board[at]
+    let start = item.content;
+    let end = start + item.head.count;
+    &board[start..end]
 }
 
-// Content words k and k + 1 of an item as one number, the high one first.
-pub fn pair(board: &[u32], item: Item, k: usize) -> u64
-    requires { (item.content + item.head.count ≤ length board.now) × (k + 2 ≤ item.head.count) }
-    ensures { result ≡ pair (part k 2 (part item.content item.head.count board.now)) }
+// The content words of the item that is asked about.
+pub fn content_of<'a>(next: &Candidate<'a>) -> &'a [u32]
+    ensures { result.now ≡ (item_at next.now).content }
 {
-    words::joined(word(board, item, k), word(board, item, k + 1))
+    content_words(next.board, next.known.item)
 }
 
-// Content word k of item number n of the first items; 0 where it has none, or where there is no such item.
-pub fn earlier_word(board: &[u32], index: &[u32], items: usize, n: usize, k: usize) -> u32
-    requires { Kept board.now index.now items }
-    ensures { result ≡ word k (item_no (before board.now items) n) }
+// Word k of a content, 0 where it has none.
+pub fn word(content: &[u32], k: usize) -> u32
+    ensures { result ≡ get_or content.now k 0 }
 {
-    if n == 0 {
+    content.get(k).copied().unwrap_or(0)
+}
+
+// Content word k of item number n of those that passed; 0 where it has none, or where there is no such item.
+pub fn earlier_word(passed: &Passed, n: usize, k: usize) -> u32
+    ensures { result ≡ word k (item_no (history_of passed.now) n) }
+{
+    if n == 0 || passed.count < n {
         return 0;
     }
-    if items < n {
-        return 0;
-    }
-    let item = index::entry(board, index, items, n).item;
-    word(board, item, k)
+    word(content_words(passed.board, passed.entry(n).item), k)
 }

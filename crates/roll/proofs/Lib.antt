@@ -1,4 +1,4 @@
--- Numbers that rise, what the search leaves of the roll, and check 21 by its tests.
+-- The roll's pairs and numbers that rise, what the search leaves of them, and check 21 by its tests.
 pub mod Rise
 pub mod Search
 pub mod Rules

@@ -21,6 +21,6 @@ module _ {board index : List ℕ} {s : State} {c : Known} (a : AtItem board inde
   unfolding on_roll_ok ◌⇒◌
   roll-other q = rw (not-type a session_type q)
 
-  pub roll-is : c.item.head.code ≡ session_type → (voter weight : ℕ) → voter ≡ word 0 i → weight ≡ word 1 i → on voter weight ≡ on_roll_ok on i
+  pub roll-is : c.item.head.code ≡ session_type → on (word 0 i) (word 1 i) ≡ on_roll_ok on i
   unfolding on_roll_ok ◌⇒◌
-  roll-is q voter weight d e = rw (is-type a session_type q, d, e)
+  roll-is q = rw (is-type a session_type q)

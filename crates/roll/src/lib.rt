@@ -1,93 +1,86 @@
 // Checks 20 and 21: whether the roll is bad, and whether a session names a voter of the roll with that voter's weight. Paper: request (i).
 #![tactic(auto)]
 
-ghost use Rattle.std.specs.Prelude.{◌≡◌};
+ghost use Rattle.std.specs.Prelude.{◌≡◌, MatchOption, IsTrue};
 ghost use Rattle.model.specs.Roll.{rising, voter_numbers, is_bad_roll, GoodRoll, on_roll, on_roll_ok};
-ghost use Rattle.index.specs.Kept.{item_after};
-ghost use Rattle.state.specs.Stands.{AtItem};
+ghost use Rattle.state.specs.Reached.{item_at};
 
-use fields::{Content, word};
+use fields::{Content, content_of, word};
 use format::head::Head;
 use format::limit::Limit;
-use index::Known;
-use state::State;
+use state::candidate::Candidate;
 
 // How many pairs halving looks at, at most: a roll has fewer than 2 ^ 12.
 const LOOKS: usize = 12;
-
-// Where in a pair the weight stands, behind the voter's number.
-const WEIGHT: usize = 1;
 
 // Whether the roll is bad (20): an odd word count, too many pairs, or voter numbers that do not rise strictly.
 pub fn is_bad_roll(roll: &[u32]) -> bool
     ensures { result ≡ is_bad_roll roll.now }
 {
-    if roll.len() % Limit::ROLL_ROW != 0 {
-        return true;
-    }
-    if roll.len() / Limit::ROLL_ROW > Limit::ROLL {
-        return true;
-    }
-    !rising(roll)
+    roll.len() % Limit::ROLL_ROW != 0 || roll.len() / Limit::ROLL_ROW > Limit::ROLL || !rising(roll)
 }
 
 // Whether the voter numbers of the pairs rise strictly.
 fn rising(roll: &[u32]) -> bool
     ensures { result ≡ rising (voter_numbers roll.now) }
 {
-    let pairs = roll.len() / Limit::ROLL_ROW;
-    if pairs == 0 {
-        return true;
-    }
-    let mut last = roll[0];
-    let mut k = 1;
-    while k < pairs {
-        let next = roll[Limit::ROLL_ROW * k];
-        if next <= last {
-            return false;
-        }
-        last = next;
-        k += 1;
-    }
-    true
+    let (pairs, _) = roll.as_chunks::<2>();
+    pairs.iter().is_sorted_by(|pair, next| pair[0] < next[0])
 }
 
-// Whether the roll has that voter with that weight. The voter is found by halving: at most 12 pairs are looked at. `looks` counts
-// down, and that it never goes below 0 is proved.
-fn on_roll(roll: &[u32], voter: u32, weight: u32) -> bool
-    requires { GoodRoll roll.now }
-    ensures { result ≡ on_roll roll.now voter weight }
-{
-    let mut looks = LOOKS;
-    let mut low = 0;
-    let mut high = roll.len() / Limit::ROLL_ROW;
-    while low < high {
-        looks -= 1;
-        let mid = (low + high) / 2;
-        let found = roll[Limit::ROLL_ROW * mid];
-        if found == voter {
-            return roll[Limit::ROLL_ROW * mid + WEIGHT] == weight;
-        }
-        if found < voter {
-            low = mid + 1;
-        } else {
-            high = mid;
-        }
-    }
-    false
+// The words of a roll that is not bad.
+#[derive(Clone, Copy)]
+pub struct Roll<'a> {
+    pub words: &'a [u32],
+    pub ghost good: { ∥ GoodRoll words.now ∥₁ },
 }
 
-// 21 not on the roll, of the item after those that passed: a session names a voter of the roll with that voter's weight.
-pub fn on_roll_ok(board: &[u32], roll: &[u32], index: &[u32], s: State, c: Known) -> bool
-    requires at_item { AtItem board.now index.now s c }
-    requires good_roll { GoodRoll roll.now }
-    ensures { result ≡ on_roll_ok (on_roll roll.now) (item_after board.now s.items) }
+impl<'a> Roll<'a> {
+    // The roll of these words, none where it is bad.
+    pub fn new(words: &'a [u32]) -> Option<Roll<'a>>
+        ensures { MatchOption result (IsTrue (is_bad_roll words.now)) (λ roll. roll.words.now ≡ words.now) }
+    {
+        if is_bad_roll(words) {
+            return None;
+        }
+        Some(Roll { words })
+    }
+
+    // Whether it has that voter with that weight. The voter is found by halving what is left of the pairs.
+    // Kept: that 12 looks are enough is proved here, and the library's `binary_search_by_key` says of no number of looks.
+    pub fn has(&self, voter: u32, weight: u32) -> bool
+        ensures { result ≡ on_roll self.now.words.now voter weight }
+    {
+        let (pairs, _) = self.words.as_chunks::<2>();
+        let mut left = pairs;
+        for look in 0..LOOKS {
+            let mid = left.len() / 2;
+            let Some(&[found, held]) = left.get(mid) else {
+                return false;
+            };
+            if found == voter {
+                return held == weight;
+            }
+            left = if found < voter {
+                &left[mid + 1..]
+            } else {
+                &left[..mid]
+            };
+        }
+        false
+    }
+}
+
+// 21 not on the roll, of the item that is asked about: a session names a voter of the roll with that voter's weight.
+pub fn on_roll_ok(next: &Candidate, roll: &Roll) -> bool
+    ensures { result ≡ on_roll_ok (on_roll roll.now.words.now) (item_at next.now) }
 {
-    if c.item.head.code != Head::SESSION {
+    if next.known.item.head.code != Head::SESSION {
         return true;
     }
-    let item = c.item;
-    let voter = word(board, item, Content::VOTER);
-    let weight = word(board, item, Content::WEIGHT);
-    on_roll(roll, voter, weight)
+    let content = content_of(next);
+    roll.has(
+        word(content, Content::VOTER),
+        word(content, Content::WEIGHT),
+    )
 }

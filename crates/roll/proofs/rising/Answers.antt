@@ -1,20 +1,13 @@
--- `rising` meets its contract. The invariant: the first k numbers rise. Assumes nothing.
-use native.Mathlib.Omega.{arith}
-use Rattle.roll.proofs.Rise.{risen-one, risen-all, risen-more, risen-not}
-use borrow.Author.Rules.{rules}
+-- `rising` meets its contract: the neighbours that were tested are pairs of the roll, and all of them where each test held. Assumes nothing.
+use mathlib.Core.Path.{ap, ◌∙◌}
+use Rattle.std.proofs.Common.{rules, List, length, ℕ, ltb, Iter}
+use Rattle.roll.proofs.Rise.{number, sorted}
 use Rattle.roll.proofs.rising.Goals as goal
 
-pub returns-then-pairs-eq0 : goal.returns-then-pairs-eq0
-returns-then-pairs-eq0 c = risen-all (risen-one c.args.roll.now) (omega (arith, c.if-pairs-eq0.true))
-
-pub loop-k-init : goal.loop-k-init
-loop-k-init c = (search rules, risen-one c.args.roll.now)
-
-pub returns-then-next-last : goal.returns-then-next-last
-returns-then-next-last c = risen-not c.loop-k.invariant.1 c.loop-k-test.true c.if-next-last.true
-
-pub loop-k-preserved : goal.loop-k-preserved
-loop-k-preserved c = (search rules, risen-more c.loop-k.invariant.1 c.if-next-last.false)
-
 pub returns : goal.returns
-returns c = risen-all c.loop-k.invariant.1 c.loop-k-test.false
+returns c =
+    let (p, from, (whole, answer)) = c.is_sorted_by.ensures.runs in
+    let numbers = answer (λ x y. ltb (number x) (number y)) (λ x y r f' called. search rules) in
+    let chunks = c.as_chunks.ensures in
+    let rest = ap (λ (i : Iter (List ℕ)). i.rest.now) from ∙ c.iter.ensures.rest in
+    sorted p c.args.roll.now _ (c.iter.ensures.runs p p.seen) (rest ∙ chunks.front) (ap length rest ∙ chunks.front_len) c.args.roll _ whole numbers
