@@ -1,13 +1,13 @@
 -- Verdicts and keys over plain lists: what the words at a verdict's place say, and a key fingerprint within an item's content.
 -- Assumes nothing.
 use Prim.Native.Nat.{ℕ, zero, suc, ◌+◌, ◌-◌, min, ◌*◌, ◌/◌, ◌%◌, ◌^◌, ◌≤◌, ◌<◌}
-use native.Mathlib.Nat.{not-suc-le-zero, add-zero, add_assoc}
+use native.Mathlib.Nat.{not-suc-le-zero, add-zero}
 use native.Mathlib.Omega.{arith}
 use mathlib.Core.Path.{◌≡◌, refl, sym, ap, ◌∙◌}
 use mathlib.Core.Bool.{Bool, false, ◌&&◌}
 use mathlib.Core.List.{List, [], ◌∷◌}
-use lib.ListN.{length, get_or, drop, length-take, length-drop, get_or-eq_default}
-use lib.Seq.{take_all, ext_get_or}
+use lib.ListN.{length, get_or, take, drop, length-take, length-drop, get_or-eq_default}
+use lib.Seq.{take_all}
 use lib.Dec.{T, eqb, leb, lit<}
 use borrow.Author.Tests.{eq-eqb, ne_eqb}
 use Rattle.model.specs.Lists.{part}
@@ -19,7 +19,7 @@ use Rattle.model.specs.Keys.{opening, key_at, key_of, verdict_ok, key_ok, signat
 use Rattle.model.proofs.Numbers.{entry-none}
 use Rattle.model.proofs.Unchecked.{length-history}
 use Rattle.model.proofs.Tests.{is_false, same-iff, facts}
-use Rattle.model.proofs.Parts.{length_part}
+use Rattle.model.proofs.Parts.{length_part, part-part}
 use Rattle.format.specs.declared.item.Item as layout
 use Rattle.format.specs.declared.table.Writer.{Writer}
 use Rattle.format.specs.declared.table.Writer.TheVariants.{Administrator, BallotBox, Authorizer, Voter, Verifier}
@@ -33,7 +33,7 @@ use Rattle.index.proofs.Reading.{known-item}
 use Rattle.state.specs.declared.State.{State}
 use Rattle.state.specs.Stands.{AtItem}
 use Rattle.state.proofs.At.{at-session, at_places, at-content-words}
-use Rattle.words.proofs.Runs.{get_or-part}
+use Rattle.words.proofs.Runs.{get_or-part, slice-part}
 use Rattle.keys.specs.Verdicts.{verdict_at}
 
 -- ---- parts of parts
@@ -41,17 +41,6 @@ use Rattle.keys.specs.Verdicts.{verdict_at}
 length-any-part : (p n : ℕ) (l : List ℕ) → length (part p n l) ≡ min n (length l - p)
 unfolding part
 length-any-part p n l = simp (length-take, length-drop)
-
--- a part within a part
-part-part : (l : List ℕ) (p m k n : ℕ) → p + m ≤ length l → k + n ≤ m → part k n (part p m l) ≡ part (p + k) n l
-part-part l p m k n h e =
-    let inner = length_part p m l h in
-    let left : length (part k n (part p m l)) ≡ n = length_part k n (part p m l) (omega arith) in
-    let right : length (part (p + k) n l) ≡ n = length_part (p + k) n l (omega arith) in
-    ext_get_or 0 (part k n (part p m l)) (part (p + k) n l) (left ∙ sym right) λ i b.
-    get_or-part (part p m l) k n i (omega arith)
-    ∙ get_or-part l p m (k + i) (omega arith)
-    ∙ rw (← add_assoc p k i) (sym (get_or-part l (p + k) n i (omega arith)))
 
 all-behind : (v : List ℕ) → length v ≡ verdict_size → part 1 key_size v ≡ drop 1 v
 unfolding part
@@ -79,61 +68,52 @@ module _ (vs : List ℕ) (n : ℕ) where
   verdict-missing l = rw (ne_eqb (length verdict) verdict_size (λ e. omega (arith, length-verdict)))
 
   -- all are there
-  pub verdict-there : verdict_size * n + verdict_size ≤ length vs
-      → (eqb (get_or vs (verdict_size * n) 0 / 2 ^ 28) verdict_kind && leb (get_or vs (verdict_size * n) 0 % 2 ^ 28) 1) ≡ verdict_ok verdict
+  pub verdict-there : (v : List ℕ) → v ≡ take (verdict_size * n + verdict_size - verdict_size * n) (drop (verdict_size * n) vs) → length v ≡ verdict_size
+      → (eqb (get_or v 0 0 / 2 ^ 28) verdict_kind && leb (get_or v 0 0 % 2 ^ 28) 1) ≡ verdict_ok verdict
   unfolding verdict_ok kind_of
-  verdict-there l = rw (first_word, eq-eqb _ _ (length_part (verdict_size * n) verdict_size vs l))
+  verdict-there v is size =
+      let whole : v ≡ verdict = is ∙ slice-part vs (verdict_size * n) verdict_size (verdict_size * n + verdict_size) refl in
+      rw (← whole, eq-eqb _ _ size)
 
   pub verdict-whole : T (verdict_ok verdict) → verdict_size * n + verdict_size ≤ length vs
   unfolding verdict_ok
   verdict-whole t = let u = simp facts at t in omega (arith, length-verdict)
 
-  -- its key fingerprint is
-  pub key-whole : T (verdict_ok verdict) → verdict_size * n + 1 + key_size ≤ length vs
-  key-whole t = let whole = verdict-whole t in omega arith
-
   pub signature-is : eqb (get_or vs (verdict_size * n) 0 % 2) 1 ≡ signature_ok verdict
   unfolding signature_ok
   signature-is = rw first_word
 
-  -- its key fingerprint
-  pub key-is : (key : List ℕ) → T (verdict_ok verdict) → same_words (part (verdict_size * n + 1) key_size vs) key ≡ key_ok verdict key
+  -- the words behind the first are its key fingerprint
+  pub key-is : (own key : List ℕ) → own ≡ part (verdict_size * n + 1) key_size vs → T (verdict_ok verdict) → same_words own key ≡ key_ok verdict key
   unfolding key_ok
-  key-is key t =
+  key-is own key is t =
       let whole = verdict-whole t in
       let size = length_part (verdict_size * n) verdict_size vs whole in
       let rest : part 1 key_size verdict ≡ drop 1 verdict = all-behind verdict size in
-      rw (← rest, part-part vs (verdict_size * n) verdict_size 1 key_size whole (omega arith))
+      rw (is, ← rest, part-part 1 key_size (verdict_size * n) verdict_size vs (omega arith))
 
 -- ---- a key fingerprint within a content
 
-module _ (board vs : List ℕ) (at content count k : ℕ) where
-  pub key-short : at + key_size ≤ length vs → content + count ≤ length board → count < k + key_size
-      → false ≡ same_words (part at key_size vs) (part k key_size (part content count board))
-  key-short v b l =
-      sym (other_length (part at key_size vs) (part k key_size (part content count board)) λ e.
-      omega (arith, length_part at key_size vs v, length_part content count board b, length-any-part k key_size (part content count board)))
+pub key-found : (key content : List ℕ) (k : ℕ) (found : List ℕ) → found ≡ take (k + key_size - k) (drop k content)
+    → same_words key found ≡ same_words key (part k key_size content)
+key-found key content k found is = rw (is, slice-part content k key_size (k + key_size) refl)
 
-  pub key-within : content + count ≤ length board → k + key_size ≤ count
-      → same_words (part at key_size vs) (part (content + k) key_size board) ≡ same_words (part at key_size vs) (part k key_size (part content count board))
-  key-within b l = rw (part-part board content count k key_size b l)
+module _ (key : List ℕ) (whole : length key ≡ key_size) where
+  pub key-short : (content : List ℕ) (k : ℕ) → length content < k + key_size → false ≡ same_words key (part k key_size content)
+  key-short content k l = sym (other_length key (part k key_size content) (λ e. omega (arith, length-any-part k key_size content)))
 
--- ---- the item that holds it
+  -- an absent item has no content
+  no_key : (k : ℕ) (e : Entry) → e ≡ absent → false ≡ same_words key (key_at k e.item)
+  no_key k e q = key-short e.item.content k (omega (arith, ap (λ (x : Entry). length x.item.content) q))
 
--- an absent item has no content
-no_key : (vs : List ℕ) (at k : ℕ) (e : Entry) → e ≡ absent → at + key_size ≤ length vs → false ≡ same_words (part at key_size vs) (key_at k e.item)
-no_key vs at k e q v =
-    sym (other_length (part at key_size vs) (key_at k e.item) λ d.
-    omega (arith, length_part at key_size vs v, length-any-part k key_size e.item.content, ap (λ (x : Entry). length x.item.content) q))
+  module _ (h : History) (k : ℕ) where
+    pub key-none : (number : ℕ) → number ≡ 0 → false ≡ same_words key (key_at k (item_no h number))
+    key-none number q = no_key k (entry h number) (ap (entry h) q ∙ entry-none h)
 
-module _ (h : History) (vs : List ℕ) (at k : ℕ) (v : at + key_size ≤ length vs) where
-  pub key-none : (number : ℕ) → number ≡ 0 → false ≡ same_words (part at key_size vs) (key_at k (item_no h number))
-  key-none number q = no_key vs at k (entry h number) (ap (entry h) q ∙ entry-none h) v
-
-  pub key-past : (number : ℕ) → length h < number → false ≡ same_words (part at key_size vs) (key_at k (item_no h number))
-  unfolding entry
-  key-past zero l = absurd (not-suc-le-zero l)
-  key-past (suc number) l = no_key vs at k (entry h (suc number)) (get_or-eq_default h absent (omega arith)) v
+    pub key-past : (number : ℕ) → length h < number → false ≡ same_words key (key_at k (item_no h number))
+    unfolding entry
+    key-past zero l = absurd (not-suc-le-zero l)
+    key-past (suc number) l = no_key k (entry h (suc number)) (get_or-eq_default h absent (omega arith))
 
 module _ {board : List ℕ} {e : Entry} {r : Known} (is : IsKnown board e r) where
   -- the content of an earlier item
@@ -143,10 +123,9 @@ module _ {board : List ℕ} {e : Entry} {r : Known} (is : IsKnown board e r) whe
       ∙ content-is board e.place
       ∙ ap (λ (i : Item). i.content) (sym is.item)
 
-  pub key-known : (vs : List ℕ) (at k : ℕ)
-      → same_words (part at key_size vs) (part k key_size (part r.item.content r.item.head.count board))
-      ≡ same_words (part at key_size vs) (key_at k e.item)
-  key-known vs at k = rw known-content
+  pub key-known : (key : List ℕ) (k : ℕ)
+      → same_words key (part k key_size (part r.item.content r.item.head.count board)) ≡ same_words key (key_at k e.item)
+  key-known key k = rw known-content
 
 opening-own : (board : List ℕ) (n : ℕ) (i : Item) → n ≡ 0 → opening (before board n) i ≡ i
 unfolding opening history
@@ -173,37 +152,34 @@ module _ {board index : List ℕ} {s : State} {c : Known} (a : AtItem board inde
   content-within = let places = at_places a in omega arith
 
   -- item 1 is the first item itself, and later an earlier item
-  module _ (vs : List ℕ) (at k : ℕ) where
-    pub key-opening-own : s.items ≡ 0 → same_words (part at key_size vs) (part k key_size content) ≡ same_words (part at key_size vs) (key_at k (opening h i))
+  module _ (key : List ℕ) (k : ℕ) where
+    pub key-opening-own : s.items ≡ 0 → same_words key (part k key_size content) ≡ same_words key (key_at k (opening h i))
     key-opening-own q = rw (at-content-words a, opening-own board s.items i q)
 
-    pub key-opening-first : (s.items ≡ 0 → ⊥) → same_words (part at key_size vs) (key_at k (item_no h 1)) ≡ same_words (part at key_size vs) (key_at k (opening h i))
+    pub key-opening-first : (s.items ≡ 0 → ⊥) → same_words key (key_at k (item_no h 1)) ≡ same_words key (key_at k (opening h i))
     key-opening-first q = rw (opening-first h i (λ e. q (sym (length-history (format_of board) board s.items) ∙ e)))
 
   -- the key of each writer
-  module _ (vs : List ℕ) (whole : T (verdict_ok (verdict vs s.items))) (w : Writer) where
-    abbrev Same : List ℕ → Bool
-    Same key = same_words (part (verdict_size * s.items + 1) key_size vs) key
-
+  module _ (vs own : List ℕ) (is : own ≡ part (verdict_size * s.items + 1) key_size vs) (whole : T (verdict_ok (verdict vs s.items))) (w : Writer) where
     abbrev Answer : Bool
     Answer = key_ok (verdict vs s.items) (key_of h (writer_of w) i)
 
-    pub key-administrator : w ≡ Administrator → Same (key_at 1 (opening h i)) ≡ Answer
+    pub key-administrator : w ≡ Administrator → same_words own (key_at 1 (opening h i)) ≡ Answer
     unfolding key_of
-    key-administrator q = key-is vs s.items (key_at 1 (opening h i)) whole ∙ rw q
+    key-administrator q = key-is vs s.items own (key_at 1 (opening h i)) is whole ∙ rw q
 
-    pub key-ballot-box : w ≡ BallotBox → Same (key_at (1 + key_size) (opening h i)) ≡ Answer
+    pub key-ballot-box : w ≡ BallotBox → same_words own (key_at (1 + key_size) (opening h i)) ≡ Answer
     unfolding key_of
-    key-ballot-box q = key-is vs s.items (key_at (1 + key_size) (opening h i)) whole ∙ rw q
+    key-ballot-box q = key-is vs s.items own (key_at (1 + key_size) (opening h i)) is whole ∙ rw q
 
-    pub key-authorizer : w ≡ Authorizer → Same (key_at 1 (item_no h s.authorizer)) ≡ Answer
+    pub key-authorizer : w ≡ Authorizer → same_words own (key_at 1 (item_no h s.authorizer)) ≡ Answer
     unfolding key_of
-    key-authorizer q = key-is vs s.items (key_at 1 (item_no h s.authorizer)) whole ∙ rw (q, a.stands.authorizer)
+    key-authorizer q = key-is vs s.items own (key_at 1 (item_no h s.authorizer)) is whole ∙ rw (q, a.stands.authorizer)
 
-    pub key-voter : w ≡ Voter → Same (key_at 2 (item_no h c.session)) ≡ Answer
+    pub key-voter : w ≡ Voter → same_words own (key_at 2 (item_no h c.session)) ≡ Answer
     unfolding key_of
-    key-voter q = key-is vs s.items (key_at 2 (item_no h c.session)) whole ∙ rw (q, at-session a)
+    key-voter q = key-is vs s.items own (key_at 2 (item_no h c.session)) is whole ∙ rw (q, at-session a)
 
-    pub key-verifier : w ≡ Verifier → Same (part 0 key_size content) ≡ Answer
+    pub key-verifier : w ≡ Verifier → same_words own (part 0 key_size content) ≡ Answer
     unfolding key_of
-    key-verifier q = key-is vs s.items (part 0 key_size content) whole ∙ rw (q, at-content-words a)
+    key-verifier q = key-is vs s.items own (part 0 key_size content) is whole ∙ rw (q, at-content-words a)

@@ -8,16 +8,14 @@ ghost use Rattle.model.specs.Format.{key_size, verdict_size};
 ghost use Rattle.model.specs.History.{item_no};
 ghost use Rattle.model.specs.Audit.{item_limit};
 ghost use Rattle.model.specs.Keys.{key_at, verdict_ok, key_ok, signature_ok};
-ghost use Rattle.index.specs.Kept.{before, Kept};
-ghost use Rattle.state.specs.Stands.{AtItem, IsRow};
+ghost use Rattle.state.specs.Reached.{history_before};
 ghost use Rattle.keys.specs.Verdicts.{verdict_at, key_in, writer_key, opening_of};
 
 use format::head::Head;
 use format::item::Item;
 use format::size::Size;
-use format::table::{Row, Writer};
-use index::Known;
-use state::State;
+use format::table::Writer;
+use state::candidate::{Candidate, ListedItem};
 
 // A verdict: a word that says whether the signature is good, and the fingerprint of the key under which it was checked.
 pub struct Verdict {}
@@ -54,41 +52,29 @@ pub fn verdict_ok(verdicts: &[u32], items: usize) -> bool
     ensures { result ≡ verdict_ok (verdict_at verdicts.now items) }
 {
     let at = Verdict::SIZE * items;
-    if verdicts.len() < at + Verdict::SIZE {
-        return false;
+    match verdicts.get(at..at + Verdict::SIZE) {
+        Some(verdict) => {
+            let word = verdict[0];
+            word >> 28 == Head::VERDICT && word % 0x1000_0000 <= Verdict::GOOD
+        }
+        None => false,
     }
-    let word = verdicts[at];
-    word >> 28 == Head::VERDICT && word % 0x1000_0000 <= Verdict::GOOD
 }
 
 // 15, wrong key: the verdict was given under the key of the item's writer.
-pub fn key_ok(board: &[u32], index: &[u32], verdicts: &[u32], s: State, c: Known, row: Row) -> bool
-    requires { (AtItem board.now index.now s c) × (IsRow board.now s row) × T (verdict_ok (verdict_at verdicts.now s.items)) }
-    ensures { result ≡ key_ok (verdict_at verdicts.now s.items) (writer_key board.now s.items row.writer) }
+pub fn key_ok(listed: &ListedItem, verdicts: &[u32]) -> bool
+    requires { T (verdict_ok (verdict_at verdicts.now listed.now.candidate.now.state.items)) }
+    ensures { let next = listed.now.candidate.now in result
+        ≡ key_ok (verdict_at verdicts.now next.state.items) (writer_key next.board.now next.state.items listed.now.row.writer) }
 {
-    let at = Verdict::SIZE * s.items + 1;
-    let item = c.item;
-    let writer = row.writer;
-    match writer {
-        Writer::Administrator => {
-            is_opening_key(board, index, verdicts, at, s, c, Key::ADMINISTRATOR)
-        }
-        Writer::BallotBox => is_opening_key(board, index, verdicts, at, s, c, Key::BALLOT_BOX),
-        Writer::Authorizer => {
-            is_earlier_key(
-                board,
-                index,
-                verdicts,
-                at,
-                s.items,
-                s.authorizer,
-                Key::AUTHORIZER,
-            )
-        }
-        Writer::Voter => {
-            is_earlier_key(board, index, verdicts, at, s.items, c.session, Key::VOTER)
-        }
-        Writer::Verifier => is_key(board, verdicts, at, item, Key::VERIFIER),
+    let next = listed.candidate;
+    let key = words::part(verdicts, Verdict::SIZE * next.state.items + 1, Size::KEY);
+    match listed.row.writer {
+        Writer::Administrator => is_opening_key(next, key, Key::ADMINISTRATOR),
+        Writer::BallotBox => is_opening_key(next, key, Key::BALLOT_BOX),
+        Writer::Authorizer => is_earlier_key(next, key, next.state.authorizer, Key::AUTHORIZER),
+        Writer::Voter => is_earlier_key(next, key, next.known.session, Key::VOTER),
+        Writer::Verifier => is_key(next.board, next.known.item, key, Key::VERIFIER),
     }
 }
 
@@ -97,64 +83,40 @@ pub fn signature_ok(verdicts: &[u32], items: usize) -> bool
     requires { (items ≤ item_limit) × T (verdict_ok (verdict_at verdicts.now items)) }
     ensures { result ≡ signature_ok (verdict_at verdicts.now items) }
 {
-    let at = Verdict::SIZE * items;
-    verdicts[at] % 2 == Verdict::GOOD
+    verdicts[Verdict::SIZE * items] % 2 == Verdict::GOOD
 }
 
-// Whether the verdict's key fingerprint, at a place, is the one from content word k of item 1 on. The first item is item 1 itself.
-fn is_opening_key(
-    board: &[u32],
-    index: &[u32],
-    verdicts: &[u32],
-    at: usize,
-    s: State,
-    c: Known,
-    k: usize,
-) -> bool
-    requires { (AtItem board.now index.now s c) × (at + key_size ≤ length verdicts.now) × (k ≤ verdict_size) }
-    ensures { result ≡ same_words (key_in verdicts.now at) (key_at k (opening_of board.now s.items)) }
+// Whether a key fingerprint is the one from content word k of item 1 on. The first item is item 1 itself.
+fn is_opening_key(next: &Candidate, key: &[u32], k: usize) -> bool
+    requires { (length key.now ≡ key_size) × (k ≤ verdict_size) }
+    ensures { result ≡ same_words key.now (key_at k (opening_of next.now.board.now next.now.state.items)) }
 {
-    if s.items == 0 {
-        let item = c.item;
-        return is_key(board, verdicts, at, item, k);
+    if next.state.items == 0 {
+        is_key(next.board, next.known.item, key, k)
+    } else {
+        is_earlier_key(next, key, 1, k)
     }
-    is_earlier_key(board, index, verdicts, at, s.items, 1, k)
 }
 
 // Whether it is the one from content word k of an earlier item on. There is none where the items so far have no such number.
-fn is_earlier_key(
-    board: &[u32],
-    index: &[u32],
-    verdicts: &[u32],
-    at: usize,
-    items: usize,
-    number: usize,
-    k: usize,
-) -> bool
-    requires { (Kept board.now index.now items) × (at + key_size ≤ length verdicts.now) × (k ≤ verdict_size) }
-    ensures { result ≡ same_words (key_in verdicts.now at) (key_at k (item_no (before board.now items) number)) }
+fn is_earlier_key(next: &Candidate, key: &[u32], number: usize, k: usize) -> bool
+    requires { (length key.now ≡ key_size) × (k ≤ verdict_size) }
+    ensures { result ≡ same_words key.now (key_at k (item_no (history_before next.now) number)) }
 {
-    if number == 0 {
+    if number == 0 || next.state.items < number {
         return false;
     }
-    if items < number {
-        return false;
-    }
-    let item = index::entry(board, index, items, number).item;
-    is_key(board, verdicts, at, item, k)
+    is_key(next.board, next.entry(number).item, key, k)
 }
 
 // Whether it is the one from content word k of an item on. There is none where the content is too short.
-fn is_key(board: &[u32], verdicts: &[u32], at: usize, item: Item, k: usize) -> bool
-    requires { (item.content + item.head.count ≤ length board.now) × (at + key_size ≤ length verdicts.now) × (k ≤ verdict_size) }
-    ensures { result
-        ≡ same_words (key_in verdicts.now at) (key_in (part item.content item.head.count board.now) k) }
+fn is_key(board: &[u32], item: Item, key: &[u32], k: usize) -> bool
+    requires { (item.content + item.head.count ≤ length board.now) × (length key.now ≡ key_size) × (k ≤ verdict_size) }
+    ensures { result ≡ same_words key.now (key_in (part item.content item.head.count board.now) k) }
 {
-    if item.head.count < k + Size::KEY {
-        return false;
+    let content = words::part(board, item.content, item.head.count);
+    match content.get(k..k + Size::KEY) {
+        Some(found) => words::same_words(key, found),
+        None => false,
     }
-    words::same_words(
-        words::part(verdicts, at, Size::KEY),
-        words::part(board, item.content + k, Size::KEY),
-    )
 }

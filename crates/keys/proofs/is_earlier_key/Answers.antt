@@ -1,23 +1,27 @@
 -- `is_earlier_key` meets its contract. Assumes nothing.
 use mathlib.Core.Path.{◌∙◌}
-use Rattle.index.proofs.Reading.{known-within}
+use native.Mathlib.Omega.{arith}
 use Rattle.model.proofs.Unchecked.{length-history}
 use Rattle.format.specs.Format.{format_of}
-use Rattle.index.specs.Kept.{before}
+use Rattle.index.proofs.Reading.{known-within}
+use Rattle.state.specs.Reached.{history_before}
 use Rattle.keys.proofs.Keys.{key-none, key-past, key-known}
-use native.Mathlib.Omega.{arith}
 use Rattle.keys.proofs.is_earlier_key.Goals as goal
+use Rattle.keys.proofs.is_earlier_key.Goals.{then-number-eq0-via-then-number-eq0, then-number-eq0-via-else-number-eq0+then-next-number}
 
 pub returns-then-number-eq0 : goal.returns-then-number-eq0
 returns-then-number-eq0 c =
-    key-none (before c.args.board.now c.args.items) c.args.verdicts.now c.args.at c.args.k c.requires.1 c.args.number c.if-number-eq0.true
-
-pub returns-then-items-number : goal.returns-then-items-number
-returns-then-items-number c =
-    key-past (before c.args.board.now c.args.items) c.args.verdicts.now c.args.at c.args.k c.requires.1 c.args.number (omega (arith, length-history (format_of c.args.board.now) c.args.board.now c.args.items, c.if-items-number.true))
+    let a = c.args in
+    let next = a.next.now in
+    elim c.then-number-eq0.branch [
+      | then-number-eq0-via-then-number-eq0 w ↦ key-none a.key.now c.requires.0 (history_before next) a.k a.number w.if-number-eq0.true
+      | then-number-eq0-via-else-number-eq0+then-next-number w ↦
+          key-past a.key.now c.requires.0 (history_before next) a.k a.number
+          (omega (arith, length-history (format_of next.board.now) next.board.now next.state.items))
+    ]
 
 pub is_key-requires : goal.is_key-requires
-is_key-requires c = ((known-within c.entry.ensures).content, c.requires.1, c.requires.2)
+is_key-requires c = ((known-within c.entry.ensures).content, c.requires.0, c.requires.1)
 
 pub returns : goal.returns
-returns c = c.is_key.ensures ∙ key-known c.entry.ensures c.args.verdicts.now c.args.at c.args.k
+returns c = c.is_key.ensures ∙ key-known c.entry.ensures c.args.key.now c.args.k
