@@ -3,10 +3,12 @@ use mathlib.Core.Path.{◌≡◌, refl, ◌∙◌}
 use mathlib.Core.List.{List, [], ◌∷◌, ◌++◌}
 use Prim.Native.Nat.{ℕ, zero, suc, ◌+◌, ◌*◌, ◌/◌, ◌%◌, ◌^◌, ◌≤◌, ◌<◌}
 use native.Mathlib.Numerals.{add-one}
-use native.Mathlib.Nat.{suc-add}
+use native.Mathlib.Nat.{suc-add, add-zero}
 use native.Mathlib.Omega.{arith}
 use lib.ListN.{length, take, drop, get_or, set, length-append, length-take, length-drop}
-use lib.Seq.{sets, sets-eq, take_all, take-suc, take_at, drop_at, drop-drop}
+use lib.Seq.{sets, sets-eq, take_all, take-suc, take_at, drop_at, drop-drop, get_or-drop}
+use Rattle.std.specs.Int.{from_be_bytes, to_be_bytes, w32}
+use Rattle.std.specs.Simd.{first_chunks}
 use Rattle.model.specs.Program.{from_bytes}
 use Rattle.model.proofs.Program.{length-from-bytes}
 use Rattle.words.specs.Bytes.{word_of, word_at, to_bytes}
@@ -26,6 +28,27 @@ get_or-from_bytes (a ∷ b ∷ c ∷ d ∷ bs) (suc i) zero e h = absurd (omega 
 get_or-from_bytes (a ∷ b ∷ c ∷ d ∷ bs) (suc i) (suc zero) e h = absurd (omega arith)
 get_or-from_bytes (a ∷ b ∷ c ∷ d ∷ bs) (suc i) (suc (suc zero)) e h = absurd (omega arith)
 get_or-from_bytes (a ∷ b ∷ c ∷ d ∷ bs) (suc i) (suc (suc (suc zero))) e h = absurd (omega arith)
+
+-- chunk i of the first n chunks of four bytes, and its word
+get_or-fours : (bs : List ℕ) (n i : ℕ) (d : List ℕ) → i < n → get_or (first_chunks 4 n bs) i d ≡ take 4 (drop (i * 4) bs)
+get_or-fours bs zero i d h = absurd (omega arith)
+get_or-fours bs (suc n) zero d h = refl
+get_or-fours bs (suc n) (suc i) d h =
+    let place : 4 + i * 4 ≡ suc i * 4 = omega arith in
+    get_or-fours (drop 4 bs) n i d (omega arith) ∙ rw (drop-drop, place)
+
+word-first : (xs : List ℕ) → from_be_bytes w32 (take 4 xs) ≡ word_of (get_or xs 0 0) (get_or xs 1 0) (get_or xs 2 0) (get_or xs 3 0)
+word-first [] = refl
+word-first (a ∷ []) = refl
+word-first (a ∷ b ∷ []) = refl
+word-first (a ∷ b ∷ c ∷ []) = refl
+word-first (a ∷ b ∷ c ∷ d ∷ xs) = refl
+
+word-four : (bs : List ℕ) (p : ℕ) → from_be_bytes w32 (take 4 (drop p bs)) ≡ word_at bs p
+word-four bs p = word-first (drop p bs) ∙ simp (get_or-drop, add-zero)
+
+pub four-is : (bs : List ℕ) (i : ℕ) (d : List ℕ) → i < length bs / 4 → from_be_bytes w32 (get_or (first_chunks 4 (length bs / 4) bs) i d) ≡ word_at bs (i * 4)
+four-is bs i d h = rw (get_or-fours bs (length bs / 4) i d h) (word-four bs (i * 4))
 
 -- a word more of those that the bytes hold, and all of them
 module _ (bs d : List ℕ) (i : ℕ) where
@@ -69,12 +92,17 @@ sets_behind a d vs n e h =
     sets-eq vs (a ++ d) n (simp length-append (omega arith))
     ∙ rw (← drop-drop, take_at a d n e, drop_at a d n e)
 
+-- the library's bytes of a word
+pub bytes-of-word : (w : ℕ) → to_be_bytes w32 w ≡ to_bytes (w ∷ [])
+unfolding to_bytes
+bytes-of-word w = refl
+
 -- a word more, written behind the words before it
 pub write_word : (ws d : List ℕ) (i : ℕ) → i < length ws → 4 * i + 4 ≤ length d
-    → sets (to_bytes (take i ws) ++ drop (4 * i) d) (i * 4) (to_bytes (get_or ws i 0 ∷ [])) ≡ to_bytes (take (i + 1) ws) ++ drop (4 * (i + 1)) d
+    → sets (to_bytes (take i ws) ++ drop (4 * i) d) (4 * i) (to_bytes (get_or ws i 0 ∷ [])) ≡ to_bytes (take (i + 1) ws) ++ drop (4 * (i + 1)) d
 write_word ws d i hw hd =
     let four = length-to_bytes (get_or ws i 0 ∷ []) in
-    let before : length (to_bytes (take i ws)) ≡ i * 4 = simp (length-to_bytes, length-take) (omega arith) in
+    let before : length (to_bytes (take i ws)) ≡ 4 * i = simp (length-to_bytes, length-take) (omega arith) in
     let place : 4 * i + length (to_bytes (get_or ws i 0 ∷ [])) ≡ 4 * (i + 1) = omega arith in
-    sets_behind (to_bytes (take i ws)) (drop (4 * i) d) (to_bytes (get_or ws i 0 ∷ [])) (i * 4) before (simp length-drop (omega arith))
+    sets_behind (to_bytes (take i ws)) (drop (4 * i) d) (to_bytes (get_or ws i 0 ∷ [])) (4 * i) before (simp length-drop (omega arith))
     ∙ rw (drop-drop, place, add-one, take-suc ws i 0 hw, to_bytes-append)

@@ -1,11 +1,13 @@
 -- Laws of words that are written into a buffer. Assumes nothing.
-use mathlib.Core.Path.{◌≡◌, ap, ◌∙◌}
+use mathlib.Core.Path.{◌≡◌, sym, ap, ◌∙◌}
 use mathlib.Core.List.{List, [], ◌∷◌, ◌++◌}
 use Prim.Native.Nat.{ℕ, zero, suc, ◌+◌, ◌-◌, ◌≤◌, ◌<◌}
 use native.Mathlib.Nat.{suc-add, zero-add, sub-zero, zero-sub, suc-sub-suc}
 use native.Mathlib.Omega.{arith}
 use lib.ListN.{length, take, drop, get_or, set, replicate, length-replicate}
-use lib.Seq.{sets, sets-eq}
+use lib.Seq.{sets, sets-eq, take-length}
+use borrow.Rule.Slice.PartMut.{put_mid}
+use Rattle.std.proofs.lemmas.Slice.{put_mid-paste}
 use Rattle.model.specs.Report.{filled}
 
 -- a word more
@@ -18,6 +20,11 @@ sets_more l (w ∷ ws) at (suc i) k e h = rw (suc-add) (sets_more (set l at w) w
 pub sets-append : (l a b : List ℕ) (at k : ℕ) → k ≡ at + length a → sets (sets l at a) k b ≡ sets l at (a ++ b)
 sets-append l [] b at k e = let same : k ≡ at = omega arith in rw same
 sets-append l (x ∷ a) b at k e = sets-append (set l at x) a b (suc at) k (omega arith)
+
+-- a write to the part from `at` to e
+pub part-sets : (l new ws : List ℕ) (at e : ℕ) → new ≡ ws → at + length ws ≡ e → e ≤ length l → put_mid at (e - at) l new ≡ sets l at ws
+part-sets l new ws at e same end inside =
+    put_mid-paste at (e - at) l new ws (length ws) same (omega arith) (omega arith) ∙ rw take-length (sym (sets-eq ws l at (omega arith)))
 
 -- over the first words
 pub sets_first : (l ws : List ℕ) → length ws ≤ length l → sets l 0 ws ≡ ws ++ drop (length ws) l

@@ -20,7 +20,7 @@ pub fn wide(x: u32) -> usize
 pub fn joined(high: u32, low: u32) -> u64
     ensures { result ≡ high * 2 ^ 32 + low }
 {
-    (high as u64) * 0x1_0000_0000 + (low as u64)
+    u64::from(high) << 32 | u64::from(low)
 }
 
 // Two words at a place as one number, the high one first.
@@ -52,10 +52,7 @@ pub fn is_bad_run(w: &[u32], size: usize, limit: usize) -> bool
     requires { 1 ≤ size }
     ensures { result ≡ is_bad_run size limit w.now }
 {
-    if w.len() % size != 0 {
-        return true;
-    }
-    limit < w.len() / size
+    w.len() % size != 0 || limit < w.len() / size
 }
 
 // Writes words into a buffer, from a place on.
@@ -85,34 +82,10 @@ pub fn words_of(bytes: &[u8], w: &mut [u32])
     requires { length bytes.now / 4 ≤ length w.old }
     ensures { w.new ≡ from_bytes bytes.now ++ drop (length bytes.now / 4) w.old }
 {
-    let n = bytes.len() / 4;
-    let mut i = 0;
-    while i < n {
-        w[i] = word_at(bytes, i * 4);
-        i += 1;
+    let (fours, _) = bytes.as_chunks::<4>();
+    for (i, four) in fours.iter().enumerate() {
+        w[i] = u32::from_be_bytes(*four);
     }
-}
-
-// The word of the four bytes at i.
-pub fn word_at(bytes: &[u8], i: usize) -> u32
-    requires { i + 4 ≤ length bytes.now }
-    ensures { result ≡ word_at bytes.now i }
-{
-    word_of(bytes[i], bytes[i + 1], bytes[i + 2], bytes[i + 3])
-}
-
-// The word of four bytes, the high one first.
-fn word_of(a: u8, b: u8, c: u8, d: u8) -> u32
-    ensures { result ≡ word_of a b c d }
-{
-    wide_byte(a) * 0x0100_0000 + wide_byte(b) * 0x0001_0000 + wide_byte(c) * 0x0100 + wide_byte(d)
-}
-
-// A byte as a word.
-fn wide_byte(x: u8) -> u32
-    ensures { (result ≡ x) × (result < 2 ^ 8) }
-{
-    x as u32
 }
 
 // Writes the bytes of the words into the first bytes.
@@ -120,27 +93,7 @@ pub fn bytes_of(w: &[u32], bytes: &mut [u8])
     requires { 4 * length w.now ≤ length bytes.old }
     ensures { bytes.new ≡ to_bytes w.now ++ drop (4 * length w.now) bytes.old }
 {
-    let mut i = 0;
-    while i < w.len() {
-        put_word(bytes, i * 4, w[i]);
-        i += 1;
+    for (i, word) in w.iter().enumerate() {
+        bytes[4 * i..4 * i + 4].copy_from_slice(&word.to_be_bytes());
     }
-}
-
-// Writes the four bytes of a word at i.
-fn put_word(bytes: &mut [u8], i: usize, x: u32)
-    requires { i + 4 ≤ length bytes.old }
-    ensures { bytes.new ≡ sets bytes.old i (to_bytes (x ∷ [])) }
-{
-    bytes[i] = low_byte(x >> 24);
-    bytes[i + 1] = low_byte(x >> 16);
-    bytes[i + 2] = low_byte(x >> 8);
-    bytes[i + 3] = low_byte(x);
-}
-
-// The low byte of a word.
-fn low_byte(x: u32) -> u8
-    ensures { result ≡ x % 2 ^ 8 }
-{
-    (x % 256) as u8
 }
