@@ -19,7 +19,7 @@ pub fn last(chain: &[u32], bucket: usize) -> usize
     requires { (length chain.now ≡ chain_words) × (bucket < buckets) }
     ensures { result ≡ get_or chain.now bucket 0 }
 {
-    words::wide(chain[bucket])
+    chain[bucket] as usize
 }
 
 // The item before item number k in its bucket; 0 where there is none.
@@ -27,7 +27,7 @@ pub fn behind(chain: &[u32], k: usize) -> usize
     requires { (length chain.now ≡ chain_words) × (k ≤ item_limit) }
     ensures { result ≡ get_or chain.now (buckets + k) 0 }
 {
-    words::wide(chain[Chain::BUCKETS + k])
+    chain[Chain::BUCKETS + k] as usize
 }
 
 // Puts item number k into a bucket, as its last.

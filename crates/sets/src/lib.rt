@@ -7,8 +7,6 @@ ghost use Rattle.std.specs.Int.Bits.{bit_or};
 ghost use Rattle.model.specs.Lists.{if◌then◌otherwise◌, part};
 ghost use Rattle.model.specs.Words.{set_bits, member, size, all_in};
 
-use format::format::Format;
-
 // Whether a set is empty.
 pub fn is_empty(set: &[u32]) -> bool
     ensures { result ≡ eqb (size set.now) 0 }
@@ -41,9 +39,7 @@ pub fn with(set: [u32; 8], j: u32) -> [u32; 8]
         → get_or result k 0 ≡ (if eqb (j / set_bits) k then bit_or (get_or set k 0) (2 ^ (j % set_bits)) otherwise get_or set k 0) }
 {
     let mut words = set;
-    let number = words::wide(j);
-    let at = number / Format::BITS;
-    words[at] = words[at] | (1 << (number % Format::BITS));
+    words[(j / u32::BITS) as usize] |= 1 << (j % u32::BITS);
     words
 }
 

@@ -11,4 +11,4 @@ pub returns : goal.returns
 returns c k l =
     let x = c.args in
     let j = x.j in
-    rw (c.wide-number.ensures, one_shl (j % 32) (mod-lt j (lit< tt))) (set-put x.set (j / 32) (2 ^ (j % 32)) k (search rules))
+    rw (one_shl (j % 32) (mod-lt j (lit< tt))) (set-put x.set (j / 32) (2 ^ (j % 32)) k (search rules))
