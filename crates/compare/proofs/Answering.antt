@@ -15,9 +15,7 @@ use Rattle.model.specs.Comparing.{ComparingAnswer, later_board, refused_board, c
 use Rattle.model.proofs.Tests.{tests, neither, or_left, or_right, eq→eqb, if_yes, if_no}
 use Rattle.model.proofs.Unchecked.{length-history}
 use Rattle.format.specs.Format.{format_of}
-use Rattle.index.specs.Kept.{before, Kept}
-use Rattle.pairs.specs.Reading.{Numbered}
-use Rattle.compare.specs.Answer.{Accepted}
+use Rattle.index.specs.Kept.{before}
 
 -- ---- two boards that were accepted: the kept board's history, and the later board's first items
 
@@ -41,11 +39,3 @@ module _ (g : History) (later : List ℕ) (items mains number : ℕ) (all : main
       → a ≡ answer_later g (accepted h) number
   unfolding answer_later
   some-asked n l e = e ∙ sym (if_no (outside number (count main h)) _ _ (simp neither (omega (arith, tests))))
-
--- what comparing the pairs asks
-module _ {board index : List ℕ} {n m : ℕ} (a : Accepted board index n m) where
-  pub pairs-kept : Kept board index n × (1 ≤ m) × (m ≡ count main (before board n))
-  pairs-kept = (a.kept, a.opened, a.mains)
-
-  pub pairs-later : {number : ℕ} → number ≢ 0 → number ≤ m → Kept board index n × Numbered board n number
-  pairs-later z l = (a.kept, record { some = omega arith; few = omega (arith, a.mains) })

@@ -1,12 +1,15 @@
 // Comparing two boards that were accepted, at a main number of the later one.
 #![tactic(auto)]
 
-ghost use Rattle.std.specs.Prelude.{◌≡◌};
+ghost use Rattle.std.specs.Prelude.{◌≡◌, ◌≤◌};
+ghost use Rattle.model.specs.Lists.{count};
+ghost use Rattle.model.specs.History.{main};
 ghost use Rattle.model.specs.Audit.{accepted};
 ghost use Rattle.model.specs.Comparing.{answer_later};
-ghost use Rattle.index.specs.Kept.{before};
-ghost use Rattle.compare.specs.Answer.{answer_of, Accepted};
+ghost use Rattle.index.specs.Passed.{history_of};
+ghost use Rattle.compare.specs.Answer.{answer_of};
 
+use index::passed::Passed;
 use pairs::Agreement;
 use refusal::{Refusal, Refused};
 
@@ -24,41 +27,33 @@ pub struct RefusedBoard {
     pub refused: Refused,
 }
 
-// The answer for two boards that were accepted, each with its items and its main items.
+// A board that was accepted: its items, which all passed, and how many of them are main items.
+#[derive(Clone, Copy)]
+pub struct AcceptedBoard<'a> {
+    pub passed: Passed<'a>,
+    pub mains: usize,
+    pub ghost counted: { mains ≡ count main (history_of passed) },
+    pub ghost opened: { 1 ≤ mains },
+}
+
+// The answer for two boards that were accepted.
 pub fn compare_accepted(
-    kept: &[u32],
-    kept_index: &[u32],
-    kept_items: u32,
-    kept_mains: u32,
-    later: &[u32],
-    later_index: &[u32],
-    later_items: u32,
-    later_mains: u32,
+    kept: &AcceptedBoard,
+    later: &AcceptedBoard,
     number: usize,
 ) -> Result<Agreement, RefusedBoard>
-    requires accepted { Accepted kept.now kept_index.now kept_items kept_mains }
-    requires accepted_2 { Accepted later.now later_index.now later_items later_mains }
     ensures { answer_of result
-        ≡ answer_later (before kept.now kept_items) (accepted (before later.now later_items)) number }
+        ≡ answer_later (history_of kept.now.passed) (accepted (history_of later.now.passed)) number }
 {
     // 19 no such point: main number 0, or past the last
-    if number == 0 || (later_mains as usize) < number {
+    if number == 0 || later.mains < number {
         return Err(RefusedBoard {
             board: Board::Later,
             refused: Refused {
                 refusal: Refusal::NoSuchItem,
-                items: later_items,
+                items: later.passed.count as u32,
             },
         });
     }
-    Ok(pairs::compare(
-        kept,
-        kept_index,
-        kept_items as usize,
-        kept_mains as usize,
-        later,
-        later_index,
-        later_items as usize,
-        number,
-    ))
+    Ok(pairs::compare(&kept.passed, kept.mains, &later.passed, number))
 }

@@ -1,16 +1,13 @@
--- The hashed words and the address of an item, each as a run of the board's words, and runs of different lengths. Assumes nothing.
+-- The hashed words and the address of an item, each as a slice of the board. Assumes nothing.
 use Prim.Native.Nat.{ℕ, ◌+◌, ◌-◌, ◌≤◌}
 use native.Mathlib.Omega.{arith}
 use mathlib.Core.Path.{◌≡◌, sym, ap, ◌∙◌}
-use mathlib.Core.Logic.{◌≢◌}
-use mathlib.Core.Bool.{Bool, false}
+use mathlib.Core.Bool.{Bool}
 use mathlib.Core.List.{List}
-use lib.ListN.{length}
+use lib.ListN.{length, take, drop}
 use Rattle.model.specs.Lists.{part}
 use Rattle.model.specs.Words.{same_words}
 use Rattle.model.specs.Item.{item_at, item_length, hashed_length}
-use Rattle.model.proofs.Tests.{is_false, same-iff}
-use Rattle.model.proofs.Parts.{length_part}
 use Rattle.format.specs.declared.item.Item.{Item}
 use Rattle.format.specs.Format.{format_of}
 use Rattle.format.specs.Layout.{item_of}
@@ -26,7 +23,8 @@ module _ {board : List ℕ} {i : Item} (r : Read board i) where
       ∙ signature-behind board i.place
       ∙ ap (λ (x : Item). i.place + hashed_length (format_of board) x.head.count) (sym r.same)
 
-  pub hashed-read : part i.place (i.signature - i.place) board ≡ hashed_at board i.place
+  pub hashed-read : take (i.signature - i.place) (drop i.place board) ≡ hashed_at board i.place
+  unfolding part
   hashed-read =
       let size : i.signature - i.place ≡ hashed_length (format_of board) i.head.count = omega (arith, signature-read) in
       ap (λ (n : ℕ). part i.place n board) size
@@ -38,24 +36,17 @@ module _ {board : List ℕ} {i : Item} (r : Read board i) where
   unfolding item_of item_length
   parts-read = let l = rw r.same at r.within in rw r.same (omega arith)
 
-  pub address_read : part i.address (i.end - i.address) board ≡ (item_at (format_of board) board i.place).address
+  pub address_read : take (i.end - i.address) (drop i.address board) ≡ (item_at (format_of board) board i.place).address
+  unfolding part
   address_read =
       ap (λ (n : ℕ). part i.address n board) (address-width board i.place r.same)
       ∙ ap (λ (x : Item). part x.address (format_of board).address board) r.same
       ∙ address_is board i.place
 
 pub hashed-same : {kept later : List ℕ} {a b : Item} → Read kept a → Read later b → {r : Bool}
-    → r ≡ same_words (part a.place (a.signature - a.place) kept) (part b.place (b.signature - b.place) later)
+    → r ≡ same_words (take (a.signature - a.place) (drop a.place kept)) (take (b.signature - b.place) (drop b.place later))
     → r ≡ same_words (hashed_at kept a.place) (hashed_at later b.place)
 hashed-same x y q = q ∙ rw (hashed-read x, hashed-read y)
 
--- runs of different lengths differ, and so do addresses of different widths; runs of one length are compared
-module _ (a b : List ℕ) (i n j m : ℕ) where
-  pub runs-differ : i + n ≤ length a → j + m ≤ length b → n ≢ m → false ≡ same_words (part i n a) (part j m b)
-  runs-differ k l d =
-      sym (is_false (same_words (part i n a) (part j m b)) (λ t.
-      let same = ap (λ (ws : List ℕ). length ws) ((same-iff (part i n a) (part j m b)).0 t) in
-      d (sym (length_part i n a k) ∙ same ∙ length_part j m b l)))
-
-  pub runs_same : n ≡ m → {r : Bool} → r ≡ same_words (part i n a) (part j n b) → r ≡ same_words (part i n a) (part j m b)
-  runs_same e q = q ∙ ap (λ (k : ℕ). same_words (part i n a) (part j k b)) e
+-- for the attribute of a function that reads such parts
+pub ruleset ends = (parts-read)

@@ -1,12 +1,12 @@
 -- One step of the walk backwards, and the addresses that are compared before it. Assumes nothing.
-use Prim.Native.Nat.{ℕ, zero, suc, ◌-◌, ◌≤◌}
+use Prim.Native.Nat.{ℕ, zero, suc, min, ◌-◌, ◌≤◌}
 use native.Mathlib.Nat.{not-suc-le-zero}
 use native.Mathlib.Omega.{arith}
 use mathlib.Core.Path.{◌≡◌, refl, sym, ◌∙◌}
 use mathlib.Core.Bool.{Bool, true, false}
 use mathlib.Core.List.{List}
-use lib.ListN.{length}
-use Rattle.model.specs.Lists.{if◌then◌otherwise◌, count, part}
+use lib.ListN.{length, take, drop}
+use Rattle.model.specs.Lists.{if◌then◌otherwise◌, count}
 use Rattle.model.specs.Words.{same_words}
 use Rattle.model.specs.Item as model
 use Rattle.model.specs.Item.{item_at, hashed}
@@ -30,19 +30,16 @@ pub items-hashed : {kept later : List ℕ} {i j : model.Item} {a b : Item} {r : 
 items-hashed x y q = q ∙ rw (x.item, y.item)
 
 pub items-addressed : {kept later : List ℕ} {i j : model.Item} {a b : Item} {r : Bool} → IsItem kept i a → IsItem later j b
-    → r ≡ same_words (part a.address (a.end - a.address) kept) (part b.address (b.end - b.address) later)
+    → r ≡ same_words (take (a.end - a.address) (drop a.address kept)) (take (b.end - b.address) (drop b.address later))
     → r ≡ same_words i.address j.address
 items-addressed x y q = q ∙ rw (address_read x.read, address_read y.read, x.item, y.item)
 
 module _ (ks ls : List model.Item) where
-  pub backwards-kept : (b x : ℕ) → x ≤ 0 → same ≡ backwards ks ls x b
+  pub backwards-ends : (x y : ℕ) → min x y ≡ 0 → same ≡ backwards ks ls x y
   unfolding backwards
-  backwards-kept b x l = let none : x ≡ 0 = omega arith in rw none
-
-  pub backwards-later : (x y : ℕ) → y ≡ 0 → same ≡ backwards ks ls x y
-  unfolding backwards
-  backwards-later zero y e = refl
-  backwards-later (suc x) y e = rw e
+  backwards-ends zero y e = refl
+  backwards-ends (suc x) zero e = refl
+  backwards-ends (suc x) (suc y) e = absurd (omega arith)
 
   module _ {r : Bool} where
     pub backwards-differ : (x y : ℕ) → 1 ≤ x → 1 ≤ y → r ≡ same_words (hashed (main_item ks x)) (hashed (main_item ls y)) → r ≡ false
@@ -53,13 +50,13 @@ module _ (ks ls : List model.Item) where
     backwards-differ (suc x) (suc y) s o t q = rw (← t, q)
 
     pub backwards-goes : (x y : ℕ) → 1 ≤ x → 1 ≤ y → r ≡ same_words (hashed (main_item ks x)) (hashed (main_item ls y)) → r ≡ true
-        → backwards ks ls x y ≡ backwards ks ls (x - 1) (y - 1)
+        → {u v : ℕ} → u ≡ x - 1 → v ≡ y - 1 → backwards ks ls x y ≡ backwards ks ls u v
     unfolding backwards if◌then◌otherwise◌
-    backwards-goes zero y s o t q = absurd (not-suc-le-zero s)
-    backwards-goes (suc x) zero s o t q = absurd (not-suc-le-zero o)
-    backwards-goes (suc x) (suc y) s o t q =
-        let a : suc x - 1 ≡ x = omega arith in
-        let b : suc y - 1 ≡ y = omega arith in
+    backwards-goes zero y s o t q e f = absurd (not-suc-le-zero s)
+    backwards-goes (suc x) zero s o t q e f = absurd (not-suc-le-zero o)
+    backwards-goes (suc x) (suc y) s o t q {u} {v} e f =
+        let a : u ≡ x = omega arith in
+        let b : v ≡ y = omega arith in
         rw (← t, q, a, b)
 
 -- the address of the last main item of the kept board, against that of main item b

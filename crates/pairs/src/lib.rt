@@ -2,16 +2,17 @@
 // through the index tables that their audits left.
 #![tactic(auto)]
 
-ghost use Rattle.std.specs.Prelude.{◌≡◌, ◌+◌, ◌≤◌, length};
-ghost use Rattle.model.specs.Lists.{part, count};
+ghost use Rattle.std.specs.Prelude.{◌≡◌, ◌≤◌};
+ghost use Rattle.model.specs.Lists.{count};
 ghost use Rattle.model.specs.Words.{same_words};
 ghost use Rattle.model.specs.History.{main, main_item};
 ghost use Rattle.model.specs.Compare.{backwards, compare};
-ghost use Rattle.index.specs.Kept.{before, Kept};
+ghost use Rattle.index.specs.Passed.{history_of};
 ghost use Rattle.pairs.specs.Agreement.{agreement_of};
 ghost use Rattle.pairs.specs.Reading.{Read, IsItem, Numbered, mains_of, hashed_at, hashed_main};
 
 use format::item::Item;
+use index::passed::Passed;
 
 // What comparing two boards finds.
 #[derive(Clone, Copy)]
@@ -25,129 +26,68 @@ pub enum Agreement {
 }
 
 // Whether two items have the same hashed words: all words up to the signature.
+#[tactic(auto, using(crate::proofs::Hashed::ends))]
 pub fn same_hashed(kept: &[u32], a: Item, later: &[u32], b: Item) -> bool
     requires { (Read kept.now a) × (Read later.now b) }
     ensures { result ≡ same_words (hashed_at kept.now a.place) (hashed_at later.now b.place) }
 {
-    let n = a.signature - a.place;
-    let m = b.signature - b.place;
-    same_runs(kept, a.place, n, later, b.place, m)
-}
-
-// Whether the n words of a at i are the m words of b at j.
-fn same_runs(a: &[u32], i: usize, n: usize, b: &[u32], j: usize, m: usize) -> bool
-    requires { (i + n ≤ length a.now) × (j + m ≤ length b.now) }
-    ensures { result ≡ same_words (part i n a.now) (part j m b.now) }
-{
-    if n != m {
-        return false;
-    }
-    words::same_words(words::part(a, i, n), words::part(b, j, n))
+    words::same_words(&kept[a.place..a.signature], &later[b.place..b.signature])
 }
 
 // The main item of a main number.
-pub fn main_item(board: &[u32], index: &[u32], count: usize, number: usize) -> Item
-    requires { (Kept board.now index.now count) × (Numbered board.now count number) }
-    ensures { IsItem board.now (main_item (mains_of board.now count) number) result }
+pub fn main_item(passed: &Passed, number: usize) -> Item
+    requires { Numbered passed.now.board.now passed.now.count number }
+    ensures { IsItem passed.now.board.now (main_item (mains_of passed.now.board.now passed.now.count) number) result }
 {
-    let k = lookup::main_entry(board, index, count, number);
-    index::entry(board, index, count, k).item
+    let k = lookup::main_entry(passed, number);
+    passed.entry(k).item
 }
 
 // Whether main item a of the kept board and main item b of the later one have the same hashed words.
-fn same_pair(
-    kept: &[u32],
-    kept_index: &[u32],
-    kept_items: usize,
-    a: usize,
-    later: &[u32],
-    later_index: &[u32],
-    later_items: usize,
-    b: usize,
-) -> bool
-    requires kept { (Kept kept.now kept_index.now kept_items) × (Numbered kept.now kept_items a) }
-    requires kept_2 { (Kept later.now later_index.now later_items) × (Numbered later.now later_items b) }
-    ensures { result ≡ same_words (hashed_main kept.now kept_items a) (hashed_main later.now later_items b) }
+fn same_pair(kept: &Passed, a: usize, later: &Passed, b: usize) -> bool
+    requires a_in { Numbered kept.now.board.now kept.now.count a }
+    requires b_in { Numbered later.now.board.now later.now.count b }
+    ensures { result ≡ same_words (hashed_main kept.now.board.now kept.now.count a) (hashed_main later.now.board.now later.now.count b) }
 {
-    let i = main_item(kept, kept_index, kept_items, a);
-    let j = main_item(later, later_index, later_items, b);
-    same_hashed(kept, i, later, j)
+    let i = main_item(kept, a);
+    let j = main_item(later, b);
+    same_hashed(kept.board, i, later.board, j)
 }
 
 // The pairs (a, b), (a - 1, b - 1), .. while both are at least 1: the first whose hashed words differ.
-pub fn backwards(
-    kept: &[u32],
-    kept_index: &[u32],
-    kept_items: usize,
-    a: usize,
-    later: &[u32],
-    later_index: &[u32],
-    later_items: usize,
-    b: usize,
-) -> Agreement
-    requires kept { (Kept kept.now kept_index.now kept_items) × (a ≤ count main (before kept.now kept_items)) }
-    requires kept_2 { (Kept later.now later_index.now later_items) × (b ≤ count main (before later.now later_items)) }
+pub fn backwards(kept: &Passed, a: usize, later: &Passed, b: usize) -> Agreement
+    requires a_in { a ≤ count main (history_of kept.now) }
+    requires b_in { b ≤ count main (history_of later.now) }
     ensures { agreement_of result
-        ≡ backwards (mains_of kept.now kept_items) (mains_of later.now later_items) a b }
+        ≡ backwards (mains_of kept.now.board.now kept.now.count) (mains_of later.now.board.now later.now.count) a b }
 {
-    let mut x = a;
-    let mut y = b;
-    while 0 < x {
-        if y == 0 {
-            return Agreement::Same;
-        }
-        if !same_pair(
-            kept,
-            kept_index,
-            kept_items,
-            x,
-            later,
-            later_index,
-            later_items,
-            y,
-        ) {
+    for k in 0..a.min(b) {
+        let x = a - k;
+        let y = b - k;
+        if !same_pair(kept, x, later, y) {
             return Agreement::Collision {
                 kept: x as u32,
                 later: y as u32,
             };
         }
-        x -= 1;
-        y -= 1;
     }
     Agreement::Same
 }
 
 // All main items of the kept board, a of them, and the first b of the later one.
-pub fn compare(
-    kept: &[u32],
-    kept_index: &[u32],
-    kept_items: usize,
-    a: usize,
-    later: &[u32],
-    later_index: &[u32],
-    later_items: usize,
-    b: usize,
-) -> Agreement
-    requires kept { (Kept kept.now kept_index.now kept_items) × (1 ≤ a) × (a ≡ count main (before kept.now kept_items)) }
-    requires kept_2 { (Kept later.now later_index.now later_items) × (Numbered later.now later_items b) }
+#[tactic(auto, using(crate::proofs::Hashed::ends))]
+pub fn compare(kept: &Passed, a: usize, later: &Passed, b: usize) -> Agreement
+    requires a_all { (1 ≤ a) × (a ≡ count main (history_of kept.now)) }
+    requires b_in { Numbered later.now.board.now later.now.count b }
     ensures { agreement_of result
-        ≡ compare (mains_of kept.now kept_items) (mains_of later.now later_items) b }
+        ≡ compare (mains_of kept.now.board.now kept.now.count) (mains_of later.now.board.now later.now.count) b }
 {
-    let end = main_item(kept, kept_index, kept_items, a);
-    let asked = main_item(later, later_index, later_items, b);
-    let width = end.end - end.address;
-    let asked_width = asked.end - asked.address;
-    if !same_runs(kept, end.address, width, later, asked.address, asked_width) {
+    let end = main_item(kept, a);
+    let asked = main_item(later, b);
+    let end_address = &kept.board[end.address..end.end];
+    let asked_address = &later.board[asked.address..asked.end];
+    if !words::same_words(end_address, asked_address) {
         return Agreement::Apart;
     }
-    backwards(
-        kept,
-        kept_index,
-        kept_items,
-        a,
-        later,
-        later_index,
-        later_items,
-        b,
-    )
+    backwards(kept, a, later, b)
 }

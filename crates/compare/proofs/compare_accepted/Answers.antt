@@ -1,24 +1,27 @@
 -- `compare_accepted` meets its contract: 19 by the main number, and else what the pairs say. Assumes nothing.
+use native.Mathlib.Omega.{arith}
 use mathlib.Core.Path.{ap}
 use Rattle.model.specs.Comparing.{compared}
-use Rattle.compare.proofs.Answering.{none-zero, none-past, some-asked, pairs-kept, pairs-later}
+use Rattle.compare.proofs.Answering.{none-zero, none-past, some-asked}
 use Rattle.compare.proofs.compare_accepted.Goals as goal
-use Rattle.compare.proofs.compare_accepted.Goals.{then-number-eq0-via-then-number-eq0, then-number-eq0-via-else-number-eq0+then-later_mains-number}
+use Rattle.compare.proofs.compare_accepted.Goals.{then-number-eq0-via-then-number-eq0, then-number-eq0-via-else-number-eq0+then-later-number}
 
 pub returns-then-number-eq0 : goal.returns-then-number-eq0
 returns-then-number-eq0 c =
     elim c.then-number-eq0.branch [
-      | then-number-eq0-via-then-number-eq0 w ↦ none-zero _ _ _ _ _ c.requires.accepted_2.mains w.if-number-eq0.true
-      | then-number-eq0-via-else-number-eq0+then-later_mains-number w ↦ none-past _ _ _ _ _ c.requires.accepted_2.mains w.if-later_mains-number.true
+      | then-number-eq0-via-then-number-eq0 w ↦ none-zero _ _ _ _ _ c.args.later.now.counted w.if-number-eq0.true
+      | then-number-eq0-via-else-number-eq0+then-later-number w ↦ none-past _ _ _ _ _ c.args.later.now.counted w.if-later-number.true
     ]
 
 pub compare-requires : goal.compare-requires
 compare-requires c =
+    let k = c.args.kept.now in
+    let l = c.args.later.now in
     record {
-      kept = pairs-kept c.requires.accepted;
-      kept_2 = pairs-later c.requires.accepted_2 c.if-number-eq0.false c.if-later_mains-number.false;
+      a_all = (k.opened, k.counted);
+      b_in = record { some = omega arith; few = omega (arith, l.counted) };
     }
 
 pub returns : goal.returns
 returns c =
-    some-asked _ _ _ _ _ c.requires.accepted_2.mains c.if-number-eq0.false c.if-later_mains-number.false (ap compared c.compare.ensures)
+    some-asked _ _ _ _ _ c.args.later.now.counted c.if-number-eq0.false c.if-later-number.false (ap compared c.compare.ensures)

@@ -1,15 +1,11 @@
-use Prim.Native.Nat.{◌≤◌}
+use Prim.Native.Nat.{◌-◌}
 use mathlib.Core.Path.{◌≡◌}
-use Rattle.model.specs.History.{main_items}
 use Rattle.model.specs.Compare.{backwards}
-use Rattle.index.specs.Kept.{before}
+use Rattle.pairs.specs.Reading.{mains_of}
 use Rattle.pairs.proofs.backwards.Given as goal
 
-abbrev pub invariant-loop-x : goal.invariant-loop-x
-invariant-loop-x l =
-    (l.x ≤ l.a) × (l.y ≤ l.b)
-    × (backwards (main_items (before l.kept l.kept_items)) (main_items (before l.later l.later_items)) l.a l.b
-    ≡ backwards (main_items (before l.kept l.kept_items)) (main_items (before l.later l.later_items)) l.x l.y)
-
-abbrev pub decreases-loop-x : goal.decreases-loop-x
-decreases-loop-x l = l.x
+abbrev pub invariant-loop-k : goal.invariant-loop-k
+invariant-loop-k l =
+    let ks = mains_of l.kept.board.now l.kept.count in
+    let ls = mains_of l.later.board.now l.later.count in
+    backwards ks ls l.a l.b ≡ backwards ks ls (l.a - l.k) (l.b - l.k)
