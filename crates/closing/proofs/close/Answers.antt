@@ -9,9 +9,6 @@ use Rattle.tally.proofs.Fit.{holds_rows, rows_few, rows_fit}
 use Rattle.closing.proofs.Closing.{close-bad, close-good, accepted-report}
 use Rattle.closing.proofs.close.Goals as goal
 
-pub refused-requires : goal.refused-requires
-refused-requires c = (kept-held c.args.progress.now.reached).few
-
 pub returns-then-not-is_closed : goal.returns-then-not-is_closed
 returns-then-not-is_closed c =
     let p = c.args.progress.now in
