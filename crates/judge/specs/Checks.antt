@@ -9,6 +9,7 @@ use Rattle.format.specs.Table.{writer_of, parent_rule_of, counts_of}
 use Rattle.format.specs.declared.table.Row.{Row}
 use Rattle.index.specs.Kept.{before, item_after}
 use Rattle.state.specs.declared.State.{State}
+use Rattle.state.specs.declared.candidate.ListedItem.{ListedItem}
 
 -- the model's row of the item's head, from the code's
 abbrev pub row_with : List ℕ → State → Row → types.Row
@@ -23,6 +24,9 @@ row_with board s row = record {
 -- 7 to 16 and 21, of the item after those that passed, with its verdict words v
 abbrev pub checks_of : List ℕ → Eligibility → List ℕ → State → Row → List Check
 checks_of board eligible v s row = checks (format_of board) eligible (before board s.items) v (row_with board s row) (item_after board s.items)
+
+abbrev pub checks_at : ListedItem → Eligibility → List ℕ → List Check
+checks_at l eligible v = checks_of l.candidate.now.board.now eligible v l.candidate.now.state l.row
 
 -- of these 7 to 10, 11 to 13 and 21, and 14 to 16
 abbrev pub link_checks : List Check → List Check
