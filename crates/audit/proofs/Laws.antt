@@ -19,17 +19,16 @@ use Rattle.model.proofs.Acceptance.{accepted↔sound, unread-some, refused-some}
 use Rattle.model.proofs.Unchecked.{length-history, passed-history, sound-history}
 use Rattle.model.proofs.Report.{tables-keep}
 use Rattle.refusal.specs.Number.{number_of}
-use Rattle.refusal.specs.declared.Refusal.{Refusal}
 use Rattle.format.specs.Format.{format_of}
 use Rattle.index.specs.Kept.{before, Kept}
 use Rattle.index.proofs.Items.{passed-anyone}
 use Rattle.tally.specs.Tallied.{Tallied}
 use Rattle.refusal.proofs.Laws.{number-some}
-use Rattle.report.specs.declared.Report.{Report}
-use Rattle.report.specs.declared.Answer.{Answer}
-use Rattle.report.specs.declared.Answer.TheVariants.{Accepted, Refused}
-use Rattle.report.specs.Reported.{answered, reported}
-use Rattle.audit.proofs.Whole.{Audited, outcome, refused-number, accepted-number}
+use Rattle.std.specs.Prelude.{Ok, Err}
+use Rattle.refusal.specs.declared.Refused.{Refused}
+use Rattle.report.specs.declared.Accepted.{Accepted}
+use Rattle.report.specs.Reported.{reported}
+use Rattle.audit.proofs.Whole.{Report, Audited, outcome, refused-number, accepted-number}
 
 -- a sound board, and a table with the rows of its items
 sound-kept : {board verdicts roll : List ℕ} {h : History} → Sound (format_of board) board verdicts roll h → (i : List ℕ) → i ≡ filled (length i) (index_rows h 0 h)
@@ -59,8 +58,8 @@ pub data RefusedAs (o : Outcome) (n k : ℕ) : Type 0 where
 module _ (board verdicts roll index ballots : List ℕ) (r : Report) {i b : List ℕ} (a : Audited board verdicts roll index ballots r i b) where
   -- ---- acceptance
 
-  module _ {items mains n weight : ℕ} (answer : r.answer ≡ Accepted items mains n weight) where
-    accepted-is : (o : Outcome) → outcome board verdicts roll index ballots ≡ o → o ≡ accepted (before board items)
+  module _ {got : Accepted} (answer : r ≡ Ok got) where
+    accepted-is : (o : Outcome) → outcome board verdicts roll index ballots ≡ o → o ≡ accepted (before board got.items)
     unfolding report_of
     accepted-is (unread m) e =
         let number = sym (accepted-number r answer) ∙ ap (λ (t : model.Report). t.number) (rw e at a.0) in
@@ -72,18 +71,18 @@ module _ (board verdicts roll index ballots : List ℕ) (r : Report) {i b : List
         absurd (omega arith)
     accepted-is (accepted h) e =
         let sound : Sound (format_of board) board verdicts roll h = ((accepted↔sound (format_of board) board verdicts roll (length index) (length ballots) h).0 e).0 in
-        let same : items ≡ length h =
-        sym (ap (λ (x : Answer). (answered x r.end).items) answer) ∙ ap (λ (t : model.Report). t.items) (rw e at a.0) in
+        let same : got.items ≡ length h =
+        sym (ap (λ (x : Report). (reported x).items) answer) ∙ ap (λ (t : model.Report). t.items) (rw e at a.0) in
         ap accepted (sound-history sound ∙ ap (before board) (sym same))
 
-    pub accepted-outcome : outcome board verdicts roll index ballots ≡ accepted (before board items)
+    pub accepted-outcome : outcome board verdicts roll index ballots ≡ accepted (before board got.items)
     accepted-outcome = accepted-is (outcome board verdicts roll index ballots) refl
 
     -- "a board is accepted if and only if it is sound", and the tables are long enough
-    accepted-all : Sound (format_of board) board verdicts roll (before board items) × (index_need ≤ length index) × (ballot_need ≤ length ballots)
-    accepted-all = (accepted↔sound (format_of board) board verdicts roll (length index) (length ballots) (before board items)).0 accepted-outcome
+    accepted-all : Sound (format_of board) board verdicts roll (before board got.items) × (index_need ≤ length index) × (ballot_need ≤ length ballots)
+    accepted-all = (accepted↔sound (format_of board) board verdicts roll (length index) (length ballots) (before board got.items)).0 accepted-outcome
 
-    pub accepted-sound : Sound (format_of board) board verdicts roll (before board items)
+    pub accepted-sound : Sound (format_of board) board verdicts roll (before board got.items)
     accepted-sound = accepted-all.0
 
     -- so do its index rows, and its ballot rows
@@ -92,59 +91,59 @@ module _ (board verdicts roll index ballots : List ℕ) (r : Report) {i b : List
         let keep = tables-keep (format_of board) board verdicts roll index ballots in
         (ap length a.1.0 ∙ keep.0, ap length a.1.1 ∙ keep.1)
 
-    items-are : length (before board items) ≡ items
-    items-are = length-history (format_of board) board items
+    items-are : length (before board got.items) ≡ got.items
+    items-are = length-history (format_of board) board got.items
 
-    pub accepted-kept : Kept board i items
+    pub accepted-kept : Kept board i got.items
     unfolding table_after
     accepted-kept =
-        let rows : i ≡ filled (length index) (index_rows (before board items) 0 (before board items)) = rw accepted-outcome at a.1.0 in
+        let rows : i ≡ filled (length index) (index_rows (before board got.items) 0 (before board got.items)) = rw accepted-outcome at a.1.0 in
         let long = length-after.0 in
         rw items-are at (sound-kept accepted-sound i (rw (← long) at rows) (rw long accepted-all.1))
 
-    pub accepted-tallied : Tallied board b items
+    pub accepted-tallied : Tallied board b got.items
     unfolding table_after
     accepted-tallied =
-        let rows : b ≡ filled (length ballots) (ballot_rows (counted (before board items))) = rw accepted-outcome at a.1.1 in
+        let rows : b ≡ filled (length ballots) (ballot_rows (counted (before board got.items))) = rw accepted-outcome at a.1.1 in
         let long = length-after.1 in
         record { rows = rw (← long) at rows; room = rw long accepted-all.2 }
 
     -- what is told of the main items and of the counted ballots
-    told : reported r ≡ report_of (format_of board) (accepted (before board items))
+    told : reported r ≡ report_of (format_of board) (accepted (before board got.items))
     told = rw accepted-outcome at a.0
 
-    pub accepted-mains : mains ≡ count main (before board items)
+    pub accepted-mains : got.mains ≡ count main (before board got.items)
     unfolding report_of
-    accepted-mains = sym (ap (λ (x : Answer). (answered x r.end).mains) answer) ∙ ap (λ (t : model.Report). t.mains) told
+    accepted-mains = sym (ap (λ (x : Report). (reported x).mains) answer) ∙ ap (λ (t : model.Report). t.mains) told
 
-    pub accepted-end : r.end ≡ filled longest_address (end_address (format_of board) (before board items))
+    pub accepted-end : got.end ≡ filled longest_address (end_address (format_of board) (before board got.items))
     unfolding report_of
-    accepted-end = sym (ap (λ (x : Answer). (answered x r.end).end) answer) ∙ ap (λ (t : model.Report). t.end) told
+    accepted-end = sym (ap (λ (x : Report). (reported x).end) answer) ∙ ap (λ (t : model.Report). t.end) told
 
-    pub accepted-ballots : n ≡ length (counted (before board items))
+    pub accepted-ballots : got.ballots ≡ length (counted (before board got.items))
     unfolding report_of
-    accepted-ballots = sym (ap (λ (x : Answer). (answered x r.end).ballots) answer) ∙ ap (λ (t : model.Report). t.ballots) told
+    accepted-ballots = sym (ap (λ (x : Report). (reported x).ballots) answer) ∙ ap (λ (t : model.Report). t.ballots) told
 
-    pub accepted-weight : weight ≡ total_weight (counted (before board items))
+    pub accepted-weight : got.weight ≡ total_weight (counted (before board got.items))
     unfolding report_of
-    accepted-weight = sym (ap (λ (x : Answer). (answered x r.end).weight) answer) ∙ ap (λ (t : model.Report). t.weight) told
+    accepted-weight = sym (ap (λ (x : Report). (reported x).weight) answer) ∙ ap (λ (t : model.Report). t.weight) told
 
   -- ---- a refusal
 
-  module _ {x : Refusal} {k : ℕ} (answer : r.answer ≡ Refused x k) where
-    refused-is : (o : Outcome) → outcome board verdicts roll index ballots ≡ o → RefusedAs o (number_of x) k
+  module _ {x : Refused} (answer : r ≡ Err x) where
+    refused-is : (o : Outcome) → outcome board verdicts roll index ballots ≡ o → RefusedAs o (number_of x.refusal) x.items
     unfolding report_of
     refused-is (unread m) e =
         let number = sym (refused-number r answer) ∙ ap (λ (t : model.Report). t.number) (rw e at a.0) in
-        let none = sym (ap (λ (y : Answer). (answered y r.end).items) answer) ∙ ap (λ (t : model.Report). t.items) (rw e at a.0) in
+        let none = sym (ap (λ (y : Report). (reported y).items) answer) ∙ ap (λ (t : model.Report). t.items) (rw e at a.0) in
         unchanged (ap unread (sym number)) none
     refused-is (refused m j) e =
         let number = sym (refused-number r answer) ∙ ap (λ (t : model.Report). t.number) (rw e at a.0) in
-        let passed = sym (ap (λ (y : Answer). (answered y r.end).items) answer) ∙ ap (λ (t : model.Report). t.items) (rw e at a.0) in
+        let passed = sym (ap (λ (y : Report). (reported y).items) answer) ∙ ap (λ (t : model.Report). t.items) (rw e at a.0) in
         cleared (rw (number, passed))
     refused-is (accepted h) e =
         let number = sym (refused-number r answer) ∙ ap (λ (t : model.Report). t.number) (rw e at a.0) in
-        absurd (omega (arith, number-some x))
+        absurd (omega (arith, number-some x.refusal))
 
-    pub refused-outcome : RefusedAs (outcome board verdicts roll index ballots) (number_of x) k
+    pub refused-outcome : RefusedAs (outcome board verdicts roll index ballots) (number_of x.refusal) x.items
     refused-outcome = refused-is (outcome board verdicts roll index ballots) refl

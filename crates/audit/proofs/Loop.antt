@@ -7,6 +7,7 @@ use mathlib.Core.Bool.{not}
 use mathlib.Core.List.{List, []}
 use lib.ListN.{length, get_or}
 use lib.Dec.{T}
+use Rattle.std.specs.Prelude.{Result, Ok, Err}
 use Rattle.model.specs.Lists.{keep, latest}
 use Rattle.model.specs.Words.{kind_of, is_closing}
 use Rattle.model.specs.Refusal.{no_fault, too_large, truncated}
@@ -21,7 +22,7 @@ use Rattle.model.proofs.Steps.{items_from, from_start, from-ended, from-closing,
 use Rattle.model.proofs.Unchecked.{length-history}
 use Rattle.refusal.specs.Number.{number_of, found_of}
 use Rattle.refusal.specs.declared.Refusal.{Refusal}
-use Rattle.refusal.specs.declared.Finding.TheVariants.{Passes, Fails}
+use Rattle.refusal.specs.declared.Refused.{Refused}
 use Rattle.format.specs.Format.{format_of}
 use Rattle.format.specs.Layout.{head_of}
 use Rattle.format.specs.declared.head.Head.{Head}
@@ -31,11 +32,13 @@ use Rattle.state.specs.Stands.{Stands}
 use Rattle.state.specs.declared.State.{State}
 use Rattle.tally.specs.Tallied.{Tallied}
 use Rattle.refusal.proofs.Laws.{number-some}
-use Rattle.report.specs.declared.Report.{Report}
-use Rattle.step.specs.declared.Step.{Step}
+use Rattle.report.specs.declared.Accepted.{Accepted}
 use Rattle.step.specs.Steps.{Reached, Stepped}
 use Rattle.report.specs.Reported.{reported}
 use Rattle.audit.specs.Tables.{Sized, Zeros, Holds}
+
+abbrev pub Report : Type 0
+Report = Result Accepted Refused
 
 -- ---- before the first item
 
@@ -144,32 +147,33 @@ module _ (board verdicts roll : List ℕ) where
         stop-full q r told =
             stopped _ (from-full (format_of board) board (closing_ok board verdicts) (fault (format_of board) (on_roll roll) board verdicts) s.items (rw place_is at there) item-word (omega arith)) r told index ballots (holds-here too_large)
 
-        module _ (few : s.items < item_limit) {index' ballots' parents' sessions' : List ℕ} {step : Step}
+        module _ (few : s.items < item_limit) {index' ballots' parents' sessions' : List ℕ} {step : Result State Refusal}
             (stepped : Stepped board verdicts roll index ballots parents sessions index' ballots' parents' sessions' s step) where
-          pub stop-refused : (x : Refusal) → step.finding ≡ Fails x → (r : Report) → reported r ≡ report_of (format_of board) (refused (number_of x) s.items)
+          pub stop-refused : (x : Refusal) → step ≡ Err x → (r : Report) → reported r ≡ report_of (format_of board) (refused (number_of x) s.items)
               → Ran r index' ballots'
           stop-refused x q r told =
-              let number : found_of step.finding ≡ number_of x = ap found_of q in
+              let number : found_of step ≡ number_of x = ap found_of q in
               let fails : number_of x ≡ no_fault → ⊥ = λ n. absurd (omega (arith, number-some x)) in
-              let (stay, same_index, same-ballots, same-parents, same-sessions) = stepped.failed (λ n. fails (sym number ∙ n)) in
+              let (same_index, same-ballots, same-parents, same-sessions) = stepped.failed x q in
               rw (same_index, same-ballots)
               (stopped _ (from-refused (format_of board) board (closing_ok board verdicts) (fault (format_of board) (on_roll roll) board verdicts) s.items (rw place_is at there) item-word few (number_of x) (rw place_is at (sym stepped.finding ∙ number)) fails)
               r told index ballots (holds-here (number_of x)))
 
-          pub going_on : step.finding ≡ Passes → length index' ≡ length index → length ballots' ≡ length ballots
-              → length parents' ≡ length parents → length sessions' ≡ length sessions
-              → Going index₀ ballots₀ parents₀ sessions₀ index' ballots' parents' sessions' step.state
-          going_on q li lb lp ls =
-              let none : found_of step.finding ≡ no_fault = ap found_of q in
-              let (next, reached) = stepped.passed none in
-              record {
-                reached = reached;
-                same = g.same ∙ from-passed (format_of board) board (closing_ok board verdicts) (fault (format_of board) (on_roll roll) board verdicts) s.items (rw place_is at there) item-word few (rw place_is at (sym stepped.finding ∙ none)) ∙ rw (next, add-one);
-                index-size = li ∙ g.index-size;
-                ballots-size = lb ∙ g.ballots-size;
-                parents-size = lp ∙ g.parents-size;
-                sessions-size = ls ∙ g.sessions-size;
-              }
+          module _ (next : State) (q : step ≡ Ok next) where
+            pub going_on : length index' ≡ length index → length ballots' ≡ length ballots
+                → length parents' ≡ length parents → length sessions' ≡ length sessions
+                → Going index₀ ballots₀ parents₀ sessions₀ index' ballots' parents' sessions' next
+            going_on li lb lp ls =
+                let none : found_of step ≡ no_fault = ap found_of q in
+                let (more, reached) = stepped.passed next q in
+                record {
+                  reached = reached;
+                  same = g.same ∙ from-passed (format_of board) board (closing_ok board verdicts) (fault (format_of board) (on_roll roll) board verdicts) s.items (rw place_is at there) item-word few (rw place_is at (sym stepped.finding ∙ none)) ∙ rw (more, add-one);
+                  index-size = li ∙ g.index-size;
+                  ballots-size = lb ∙ g.ballots-size;
+                  parents-size = lp ∙ g.parents-size;
+                  sessions-size = ls ∙ g.sessions-size;
+                }
 
-          pub going_less : step.finding ≡ Passes → item_limit - step.state.items < item_limit - s.items
-          going_less q = let next = (stepped.passed (ap found_of q)).0 in omega arith
+            pub going_less : item_limit - next.items < item_limit - s.items
+            going_less = let more = (stepped.passed next q).0 in omega arith

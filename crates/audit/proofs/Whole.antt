@@ -16,15 +16,17 @@ use Rattle.model.proofs.Acceptance.{refused-some}
 use Rattle.model.proofs.Unchecked.{accepted-history}
 use Rattle.refusal.specs.Number.{number_of}
 use Rattle.chains.specs.Chain.{chain_words, chain}
-use Rattle.refusal.specs.declared.Refusal.{Refusal}
 use Rattle.format.specs.Format.{format_of}
 use Rattle.index.specs.Kept.{before}
 use Rattle.refusal.proofs.Laws.{number-some}
-use Rattle.report.specs.declared.Report.{Report}
-use Rattle.report.specs.declared.Answer.{Answer}
-use Rattle.report.specs.declared.Answer.TheVariants.{Accepted, Refused}
-use Rattle.report.specs.Reported.{answered, reported}
+use Rattle.std.specs.Prelude.{Result, Ok, Err}
+use Rattle.refusal.specs.declared.Refused.{Refused}
+use Rattle.report.specs.declared.Accepted.{Accepted}
+use Rattle.report.specs.Reported.{reported}
 use Rattle.audit.specs.Tables.{Sized, Zeros, Holds}
+
+abbrev pub Report : Type 0
+Report = Result Accepted Refused
 
 -- ---- no items yet
 
@@ -35,11 +37,11 @@ chain-none bucket = refl
 
 -- ---- the number of an answer
 
-pub refused-number : (r : Report) {x : Refusal} {k : ℕ} → r.answer ≡ Refused x k → (reported r).number ≡ number_of x
-refused-number r e = ap (λ (a : Answer). (answered a r.end).number) e
+pub refused-number : (r : Report) {x : Refused} → r ≡ Err x → (reported r).number ≡ number_of x.refusal
+refused-number r e = ap (λ (a : Report). (reported a).number) e
 
-pub accepted-number : (r : Report) {items mains ballots weight : ℕ} → r.answer ≡ Accepted items mains ballots weight → (reported r).number ≡ no_fault
-accepted-number r e = ap (λ (a : Answer). (answered a r.end).number) e
+pub accepted-number : (r : Report) {a : Accepted} → r ≡ Ok a → (reported r).number ≡ no_fault
+accepted-number r e = ap (λ (a : Report). (reported a).number) e
 
 module _ (board verdicts roll index ballots : List ℕ) where
   abbrev pub outcome : Outcome
@@ -112,25 +114,25 @@ module _ (board verdicts roll index ballots : List ℕ) where
     audit-items q = rw (le-ltb _ _ sized.few_words, le-ltb _ _ sized.wide, le-ltb _ _ sized.roomy, good, q)
 
     cleared : (o : Outcome) (i b : List ℕ) → Holds board o i b → (r : Report) → reported r ≡ report_of (format_of board) o
-        → {x : Refusal} {k : ℕ} → r.answer ≡ Refused x k
+        → {x : Refused} → r ≡ Err x
         → (index_after o index ≡ replicate (length index) 0) × (ballots_after o ballots ≡ replicate (length ballots) 0)
     unfolding table_after report_of
     cleared (unread n) i b held r told a = absurd held
     cleared (refused n k) i b held r told a = (refl, refl)
     cleared (accepted h) i b held r told {x} a =
         let number = sym (refused-number r a) ∙ ap (λ (m : model.Report). m.number) told in
-        absurd (omega (arith, number-some x))
+        absurd (omega (arith, number-some x.refusal))
 
     -- a refusal, and both tables are cleared
     pub audited-cleared : is_empty board ≡ false → (i b : List ℕ) → Holds board answer i b
-        → (r : Report) → reported r ≡ report_of (format_of board) answer → {x : Refusal} {k : ℕ} → r.answer ≡ Refused x k
+        → (r : Report) → reported r ≡ report_of (format_of board) answer → {x : Refused} → r ≡ Err x
         → {i' b' : List ℕ} (m n : ℕ) → i' ≡ replicate m 0 → b' ≡ replicate n 0 → m ≡ length index → n ≡ length ballots → Audited r i' b'
     audited-cleared q i b held r told a m n ei eb em en =
         let (ci, cb) = cleared answer i b held r told a in
         rw (audit-items q) (told, (rw em at ei ∙ sym ci, rw en at eb ∙ sym cb))
 
     filled-tables : (o : Outcome) → outcome ≡ o → (i b : List ℕ) → Holds board o i b → (r : Report) → reported r ≡ report_of (format_of board) o
-        → {items mains n weight : ℕ} → r.answer ≡ Accepted items mains n weight → length i ≡ length index → length b ≡ length ballots
+        → {a : Accepted} → r ≡ Ok a → length i ≡ length index → length b ≡ length ballots
         → (i ≡ index_after o index) × (b ≡ ballots_after o ballots)
     unfolding table_after report_of
     filled-tables (unread n) e i b held r told a li lb = absurd held
@@ -144,7 +146,7 @@ module _ (board verdicts roll index ballots : List ℕ) where
 
     -- acceptance, and the tables hold the rows
     pub audited-filled : is_empty board ≡ false → (i b : List ℕ) → Holds board answer i b
-        → (r : Report) → reported r ≡ report_of (format_of board) answer → {items mains n weight : ℕ} → r.answer ≡ Accepted items mains n weight
+        → (r : Report) → reported r ≡ report_of (format_of board) answer → {a : Accepted} → r ≡ Ok a
         → length i ≡ length index → length b ≡ length ballots → Audited r i b
     audited-filled q i b held r told a li lb =
         let is = audit-items q in

@@ -20,5 +20,5 @@ outcome_of board verdicts roll index ballots =
     audit (format_of board.entry.now) board.entry.now verdicts.entry.now roll.entry.now (length index.entry.now) (length ballots.entry.now)
 
 -- what reading its items gives, from the first one on
-abbrev pub items_outcome : {A B C : Type 0} → Slice A → Slice B → Slice C → Outcome
-items_outcome board verdicts roll = items (format_of board.entry.now) (on_roll roll.entry.now) board.entry.now verdicts.entry.now item_limit [] 0
+abbrev pub items_outcome : (board verdicts roll : List ℕ) → Outcome
+items_outcome board verdicts roll = items (format_of board) (on_roll roll) board verdicts item_limit [] 0

@@ -9,7 +9,7 @@ ghost use Rattle.audit.specs.Outcome.{outcome_of};
 
 use format::limit::Limit;
 use refusal::Refusal;
-use report::Report;
+use report::{Report, refused};
 
 pub mod run;
 
@@ -28,14 +28,11 @@ pub fn audit(
 {
     // 1 oversize: more words than the limit
     if Limit::WORDS < board.len() {
-        return Report::refused(Refusal::TooLarge, 0);
+        return refused(Refusal::TooLarge, 0);
     }
     // 2 short sheet
-    if index.len() < Limit::INDEX {
-        return Report::refused(Refusal::ShortTable, 0);
-    }
-    if ballots.len() < Limit::BALLOTS {
-        return Report::refused(Refusal::ShortTable, 0);
+    if index.len() < Limit::INDEX || ballots.len() < Limit::BALLOTS {
+        return refused(Refusal::ShortTable, 0);
     }
     run::read(board, verdicts, roll, index, ballots)
 }

@@ -2,8 +2,8 @@
 -- Assumes nothing.
 use Prim.Native.Nat.{ℕ, zero, suc, ◌≤◌}
 use native.Mathlib.Omega.{arith}
-use mathlib.Core.Path.{◌≡◌, refl, sym, ap, ◌∙◌}
-use mathlib.Core.Bool.{Bool, true, false, not}
+use mathlib.Core.Path.{◌≡◌, refl, sym, ◌∙◌}
+use mathlib.Core.Bool.{Bool, true, false}
 use mathlib.Core.List.{List, [], ◌∷◌}
 use lib.ListN.{take, drop}
 use Rattle.model.specs.Lists.{if◌then◌otherwise◌}
@@ -24,31 +24,19 @@ use Rattle.model.proofs.Checks.{Numbers}
 use Rattle.refusal.specs.Number.{found_of}
 use Rattle.refusal.specs.declared.Refusal.{Refusal}
 use Rattle.refusal.proofs.Laws.{number-some}
-use Rattle.refusal.specs.declared.Finding.{Finding}
-use Rattle.refusal.specs.declared.Finding.TheVariants.{Passes, Fails}
+use Rattle.std.specs.Prelude.{Result, Ok, Err, ⊤}
 use Rattle.judge.specs.Checks.{link_checks, rule_checks, verdict_checks}
 
--- a test that the code made, passed or failed
-is-met : (b : Bool) → not b ≡ false → b ≡ true
-is-met true n = refl
-is-met false n = cc
-
-is-unmet : (b : Bool) → not b ≡ true → b ≡ false
-is-unmet true n = cc
-is-unmet false n = refl
-
-pub met : {a b : Bool} → a ≡ b → not a ≡ false → b ≡ true
-met {a} {b} e n = is-met b (ap not (sym e) ∙ n)
-
-pub unmet : {a b : Bool} → a ≡ b → not a ≡ true → b ≡ false
-unmet {a} {b} e n = is-unmet b (ap not (sym e) ∙ n)
+-- what the code was told of a rule, and what that was
+pub told : {a b r : Bool} → a ≡ b → a ≡ r → b ≡ r
+told e q = sym e ∙ q
 
 -- ---- what the checks find, as a number
 
-pub found_some : {d : Finding} {x : Refusal} → d ≡ Fails x → 1 ≤ found_of d
+pub found_some : {d : Result ⊤ Refusal} {x : Refusal} → d ≡ Err x → 1 ≤ found_of d
 found_some {x = x} e = rw e (number-some x)
 
-pub found_none : {d : Finding} {n : ℕ} → d ≡ Passes → found_of d ≡ n → 0 ≡ n
+pub found_none : {d : Result ⊤ Refusal} {u : ⊤} {n : ℕ} → d ≡ Ok u → found_of d ≡ n → 0 ≡ n
 found_none e q = rw e at q
 
 -- ---- some checks, and those behind them

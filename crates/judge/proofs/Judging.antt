@@ -1,7 +1,7 @@
 -- From what the code found of the item at hand to the first refusal that the model gives it. Assumes nothing.
 use Prim.Native.Nat.{ℕ, ◌≤◌, ◌<◌}
 use mathlib.Core.Path.{◌≡◌, refl, sym, ap, ◌∙◌}
-use mathlib.Core.Bool.{Bool, true, false, not}
+use mathlib.Core.Bool.{Bool, true, false}
 use mathlib.Core.Option.{none}
 use mathlib.Core.List.{List}
 use lib.ListN.{length, get_or}
@@ -23,7 +23,7 @@ use Rattle.format.specs.Table.{row_of, counts_of}
 use Rattle.format.specs.declared.head.Head.{Head}
 use Rattle.format.specs.declared.item.Item.{Item}
 use Rattle.format.specs.declared.table.Row.{Row}
-use Rattle.format.specs.declared.table.Listing.{Listing}
+use Rattle.std.specs.Prelude.{Option}
 use Rattle.index.specs.Kept.{Kept}
 use Rattle.index.specs.Known.{Passing}
 use Rattle.index.specs.declared.Known.{Known}
@@ -33,13 +33,12 @@ use Rattle.state.specs.Stands.{Stands, known_next, AtItem, IsRow}
 use Rattle.keys.specs.Verdicts.{verdict_at}
 use Rattle.judge.specs.Checks.{row_with, checks_of}
 use Rattle.judge.specs.Judged.{fault_after}
-use Rattle.judge.proofs.First.{met, unmet}
 use Rattle.judge.proofs.Item.{item-end}
 
 -- ---- the head: 5, 6, 4
 
 -- the row that the code found is the model's
-pub listed-row : (board : List ℕ) (s : State) {head : Head} (listing : Listing) {found : Listing} → head ≡ head_of (get_or board s.place 0)
+pub listed-row : (board : List ℕ) (s : State) {head : Head} (listing : Option Row) {found : Option Row} → head ≡ head_of (get_or board s.place 0)
     → found ≡ listing → row_of head.kind head.code found ≡ types.row_in head.kind head.code (types.table (format_of board))
     → types.row_of (format_of board) (get_or board s.place 0) ≡ row_of (kind_of (get_or board s.place 0)) (code_of (get_or board s.place 0)) listing
 unfolding types.row_of
@@ -54,13 +53,9 @@ module _ (board verdicts roll : List ℕ) (s : State) where
   fault-unlisted q = rw q
 
   -- the count that the code tested is that of the head
-  pub count-met : {head : Head} (counts : types.Counts) {b : Bool} → head ≡ head_of word → b ≡ types.fits counts head.count
-      → not b ≡ false → types.fits counts (count_of word) ≡ true
-  count-met counts is e = met (e ∙ ap (λ (h : Head). types.fits counts h.count) is)
-
-  pub count-unmet : {head : Head} (counts : types.Counts) {b : Bool} → head ≡ head_of word → b ≡ types.fits counts head.count
-      → not b ≡ true → types.fits counts (count_of word) ≡ false
-  count-unmet counts is e = unmet (e ∙ ap (λ (h : Head). types.fits counts h.count) is)
+  pub count-told : {head : Head} (counts : types.Counts) {b : Bool} → head ≡ head_of word → b ≡ types.fits counts head.count
+      → {a : Bool} → b ≡ a → types.fits counts (count_of word) ≡ a
+  count-told counts is e q = sym (e ∙ ap (λ (h : Head). types.fits counts h.count) is) ∙ q
 
   module _ (row : Row) (is : IsRow board s row) where
     pub fault-count : types.fits (counts_of row.counts) (count_of word) ≡ false → fault_after board verdicts roll s ≡ wrong_count

@@ -1,13 +1,13 @@
 -- One step of the audit: an item that passes is taken, and one that is refused changes nothing. Assumes nothing.
 use Prim.Native.Nat.{ℕ, ◌+◌}
 use native.Mathlib.Omega.{arith}
-use mathlib.Core.Path.{◌≡◌, refl, sym}
+use mathlib.Core.Path.{◌≡◌, refl, sym, ap}
 use mathlib.Core.List.{List}
 use lib.Seq.{take_all}
 use Rattle.model.specs.History.{main_number}
 use Rattle.model.proofs.Unchecked.{length-history}
 use Rattle.refusal.specs.declared.Refusal.{Refusal}
-use Rattle.refusal.specs.declared.Finding.TheVariants as finding
+use Rattle.std.specs.Prelude.{Result, Ok, Err}
 use Rattle.format.specs.Format.{format_of}
 use Rattle.index.specs.Kept.{before, Kept}
 use Rattle.index.specs.Known.{Passing}
@@ -17,9 +17,6 @@ use Rattle.state.specs.Stands.{Stands}
 use Rattle.state.specs.declared.State.{State}
 use Rattle.tally.specs.Tallied.{Tallied}
 use Rattle.judge.specs.Judged.{IsJudged}
-use Rattle.judge.specs.declared.Judged.{Judged}
-use Rattle.judge.specs.declared.Judged.TheVariants.{Passes, Fails}
-use Rattle.refusal.proofs.Laws.{number-some}
 use Rattle.step.specs.Steps.{Reached, Stepped}
 
 -- the main items before the next one are all of them
@@ -40,23 +37,28 @@ reached-next s n kept stands tallied chains = record {
   sessions = rw n chains.1;
 }
 
-module _ (board verdicts roll index : List ℕ) (s : State) (j : Judged) (judged : IsJudged board verdicts roll index s j) where
-  pub judged-passing : (c : Known) → j ≡ Passes c → Passing board index s.items c
+-- the value of a result that has one
+in_ok : State → Result State Refusal → State
+in_ok d (Ok x) = x
+in_ok d (Err x) = d
+
+module _ (board verdicts roll index : List ℕ) (s : State) (j : Result Known Refusal) (judged : IsJudged board verdicts roll index s j) where
+  pub judged-passing : (c : Known) → j ≡ Ok c → Passing board index s.items c
   judged-passing c e = (rw e at judged).1
 
-  pub stepped-passes : (c : Known) → j ≡ Passes c → (ballots parents sessions : List ℕ) {index' ballots' parents' sessions' : List ℕ} (r : State)
+  pub stepped-passes : (c : Known) → j ≡ Ok c → (ballots parents sessions : List ℕ) {index' ballots' parents' sessions' : List ℕ} (r : State)
       → (r.items ≡ s.items + 1) × Reached board index' ballots' parents' sessions' r
-      → Stepped board verdicts roll index ballots parents sessions index' ballots' parents' sessions' s record { finding = finding.Passes; state = r }
+      → Stepped board verdicts roll index ballots parents sessions index' ballots' parents' sessions' s (Ok r)
   stepped-passes c e ballots parents sessions r next = record {
     finding = sym (rw e at judged).0;
-    passed = λ q. next;
-    failed = λ q. absurd (q refl);
+    passed = λ n q. rw (ap (in_ok r) q) at next;
+    failed = λ x q. absurd (cc q);
   }
 
-  pub stepped-fails : (x : Refusal) → j ≡ Fails x → (ballots parents sessions : List ℕ)
-      → Stepped board verdicts roll index ballots parents sessions index ballots parents sessions s record { finding = finding.Fails x; state = s }
+  pub stepped-fails : (x : Refusal) → j ≡ Err x → (ballots parents sessions : List ℕ)
+      → Stepped board verdicts roll index ballots parents sessions index ballots parents sessions s (Err x)
   stepped-fails x e ballots parents sessions = record {
     finding = sym (rw e at judged);
-    passed = λ q. absurd (omega (arith, number-some x));
-    failed = λ q. (refl, refl, refl, refl, refl);
+    passed = λ n q. absurd (cc q);
+    failed = λ y q. (refl, refl, refl, refl);
   }

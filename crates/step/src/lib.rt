@@ -2,22 +2,15 @@
 #![tactic(auto)]
 
 ghost use Rattle.std.specs.Prelude.{◌≡◌, ◌+◌, ◌<◌, length};
-ghost use Rattle.model.specs.Roll.{GoodRoll};
 ghost use Rattle.model.specs.Audit.{item_limit};
 ghost use Rattle.index.specs.Known.{Passing};
 ghost use Rattle.step.specs.Steps.{Reached, Stepped};
 
 use index::Known;
-use judge::Judged;
-use refusal::Finding;
+use refusal::Refusal;
+use roll::Roll;
 use state::State;
-
-// What was found of the item, and the state behind it; where it is refused, the state stays.
-#[derive(Clone, Copy)]
-pub struct Step {
-    pub finding: Finding,
-    pub state: State,
-}
+use state::progress::Progress;
 
 // The state and the tables with an item that passes.
 fn pass(
@@ -41,35 +34,28 @@ fn pass(
     next
 }
 
-// Judges the item after those that passed, and goes on behind it if it passes.
+// Judges the item after those that passed, and goes on behind it if it passes; where it is refused, the tables stay.
 pub fn advance(
     board: &[u32],
     verdicts: &[u32],
-    roll: &[u32],
+    roll: &Roll,
     index: &mut [u32],
     ballots: &mut [u32],
     parents: &mut [u32],
     sessions: &mut [u32],
     s: State,
-) -> Step
+) -> Result<State, Refusal>
     requires reached { Reached board.now index.old ballots.old parents.old sessions.old s }
-    requires place_in_bounds { (s.place < length board.now) × (s.items < item_limit) × (GoodRoll roll.now) }
-    ensures { Stepped board.now verdicts.now roll.now
+    requires place_in_bounds { (s.place < length board.now) × (s.items < item_limit) }
+    ensures { Stepped board.now verdicts.now roll.now.words.now
         index.old ballots.old parents.old sessions.old
         index.new ballots.new parents.new sessions.new s result }
 {
-    let judged = judge::judge(board, verdicts, roll, index, ballots, parents, sessions, s);
-    match judged {
-        Judged::Passes(c) => {
-            let state = pass(board, index, ballots, parents, sessions, s, c);
-            Step {
-                finding: Finding::Passes,
-                state,
-            }
-        }
-        Judged::Fails(refusal) => Step {
-            finding: Finding::Fails(refusal),
-            state: s,
-        },
-    }
+    let progress = Progress {
+        board,
+        index,
+        state: s,
+    };
+    let known = judge::judge(&progress, verdicts, roll, ballots, parents, sessions)?;
+    Ok(pass(board, index, ballots, parents, sessions, s, known))
 }
