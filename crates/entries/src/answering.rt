@@ -7,8 +7,9 @@ ghost use Rattle.audit.specs.Outcome.{outcome_of};
 ghost use Rattle.receipts.specs.Answering.{Answerable};
 ghost use Rattle.entries.specs.Answering.{receipts_outcome, answers_left};
 
+use index::passed::Passed;
 use refusal::Refusal;
-use report::{Answer, Report};
+use report::{Report, refused};
 
 // Audits a board and answers receipts that can be answered.
 fn answer_audited(
@@ -27,18 +28,14 @@ fn answer_audited(
     ensures answers { answers.new
         ≡ answers_left board receipts (outcome_of board verdicts roll index ballots) answers.old }
 {
-    let r = audit::audit(board, verdicts, roll, index, ballots);
-    let answer = r.answer;
-    if let Answer::Accepted {
-        items,
-        mains: _,
-        ballots: _,
-        weight: _,
-    } = answer
-    {
-        receipts::answer_accepted(board, index, items, receipts, answers);
-    }
-    r
+    let accepted = audit::audit(board, verdicts, roll, index, ballots)?;
+    let passed = Passed {
+        board,
+        index,
+        count: words::wide(accepted.items),
+    };
+    receipts::answer_accepted(&passed, receipts, answers);
+    Ok(accepted)
 }
 
 // Audits a board, then answers each receipt: the main number of the first cast with its address and signature, or 4,294,967,295; zeros
@@ -64,11 +61,11 @@ pub fn receipts(
 {
     // 22 bad tray
     if receipts::is_bad(board, receipts) {
-        return Report::refused(Refusal::BadReceipts, 0);
+        return refused(Refusal::BadReceipts, 0);
     }
     // 2 short sheet
     if answers.len() < receipts::count(board, receipts) {
-        return Report::refused(Refusal::ShortTable, 0);
+        return refused(Refusal::ShortTable, 0);
     }
     answer_audited(board, verdicts, roll, receipts, index, ballots, answers)
 }

@@ -6,22 +6,15 @@ ghost use Rattle.audit.specs.Outcome.{outcome_of};
 ghost use Rattle.ancestry.specs.Answer.{answer_of};
 ghost use Rattle.entries.specs.Listing.{is_short_for, listing_outcome, Sized};
 
-use ancestry::Listing;
 use format::limit::Limit;
-use refusal::Refusal;
-use report::Answer;
+use index::passed::Passed;
+use refusal::{Refusal, Refused};
 
 // Whether a table or the list is too short.
 fn is_short(index: &[u32], ballots: &[u32], list: &[u32]) -> bool
     ensures { result ≡ is_short_for index.now ballots.now list.now }
 {
-    if index.len() < Limit::INDEX {
-        return true;
-    }
-    if ballots.len() < Limit::BALLOTS {
-        return true;
-    }
-    list.len() < Limit::ITEMS
+    index.len() < Limit::INDEX || ballots.len() < Limit::BALLOTS || list.len() < Limit::ITEMS
 }
 
 // Audits a board and lists an item's ancestry, where the board is within the word limit and all three buffers are long enough.
@@ -33,25 +26,21 @@ fn list_audited(
     index: &mut [u32],
     ballots: &mut [u32],
     list: &mut [u32],
-) -> Listing
+) -> Result<u32, Refused>
     requires { Sized board.now index.old ballots.old list.old }
     ensures answer { answer_of result ≡ ancestry_answer (outcome_of board verdicts roll index ballots) number }
     ensures index { index.new ≡ index_after (outcome_of board verdicts roll index ballots) index.old }
     ensures ballots { ballots.new ≡ ballots_after (outcome_of board verdicts roll index ballots) ballots.old }
     ensures list { list.new ≡ list_after (outcome_of board verdicts roll index ballots) number list.old }
 {
-    words::clear(list);
-    let r = audit::audit(board, verdicts, roll, index, ballots);
-    let answer = r.answer;
-    match answer {
-        Answer::Refused { refusal, items } => Listing::Refused { refusal, items },
-        Answer::Accepted {
-            items,
-            mains: _,
-            ballots: _,
-            weight: _,
-        } => ancestry::list_accepted(board, index, items, number, list),
-    }
+    list.fill(0);
+    let accepted = audit::audit(board, verdicts, roll, index, ballots)?;
+    let passed = Passed {
+        board,
+        index,
+        count: words::wide(accepted.items),
+    };
+    ancestry::list_accepted(&passed, number, list)
 }
 
 // Audits a board, then lists the ancestry of an item: its item number first, genesis last, zeros after them. The word limit and 2 change no
@@ -64,7 +53,7 @@ pub fn ancestry(
     index: &mut [u32],
     ballots: &mut [u32],
     list: &mut [u32],
-) -> Listing
+) -> Result<u32, Refused>
     ensures answer { answer_of result ≡ ancestry_answer (listing_outcome board verdicts roll index ballots list) number }
     ensures index { index.new
         ≡ index_after (listing_outcome board verdicts roll index ballots list) index.old }
@@ -75,17 +64,17 @@ pub fn ancestry(
 {
     // 1 oversize: more words than the limit
     if Limit::WORDS < board.len() {
-        return Listing::Refused {
+        return Err(Refused {
             refusal: Refusal::TooLarge,
             items: 0,
-        };
+        });
     }
     // 2 short sheet
     if is_short(index, ballots, list) {
-        return Listing::Refused {
+        return Err(Refused {
             refusal: Refusal::ShortTable,
             items: 0,
-        };
+        });
     }
     list_audited(board, verdicts, roll, number, index, ballots, list)
 }

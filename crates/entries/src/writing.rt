@@ -3,17 +3,16 @@ ghost use Rattle.std.specs.Prelude.{◌≡◌};
 ghost use Rattle.model.specs.Report.{report_of, index_after, ballots_after};
 ghost use Rattle.exporting.specs.Export.{export_length, text_after};
 ghost use Rattle.format.specs.Format.{format_of};
-ghost use Rattle.report.specs.Reported.{reported};
 ghost use Rattle.audit.specs.Outcome.{outcome_of};
-ghost use Rattle.entries.specs.Writing.{writing_outcome};
+ghost use Rattle.entries.specs.Writing.{writing_outcome, exported_report, exported_bytes};
 
-use refusal::Refusal;
-use report::{Answer, Report};
+use refusal::{Refusal, Refused};
+use report::Accepted;
 
-// The audit's report, or the refusal of a text buffer that is short; and how many bytes were written.
+// What the audit accepted, and how many bytes were written.
 #[derive(Clone, Copy)]
 pub struct Exported {
-    pub report: Report,
+    pub accepted: Accepted,
     pub bytes: u32,
 }
 
@@ -27,31 +26,21 @@ pub fn export(
     index: &mut [u32],
     ballots: &mut [u32],
     text: &mut [u8],
-) -> Exported
-    ensures report { reported result.report
+) -> Result<Exported, Refused>
+    ensures report { exported_report result
         ≡ report_of (format_of board.now) (writing_outcome board verdicts roll index ballots text) }
-    ensures bytes { result.bytes ≡ export_length (writing_outcome board verdicts roll index ballots text) }
+    ensures bytes { exported_bytes result ≡ export_length (writing_outcome board verdicts roll index ballots text) }
     ensures index { index.new ≡ index_after (outcome_of board verdicts roll index ballots) index.old }
     ensures ballots { ballots.new ≡ ballots_after (outcome_of board verdicts roll index ballots) ballots.old }
     ensures text { text.new ≡ text_after (writing_outcome board verdicts roll index ballots text) text.old }
 {
-    let report = audit::audit(board, verdicts, roll, index, ballots);
-    let answer = report.answer;
-    if let Answer::Accepted {
-        items,
-        mains: _,
-        ballots: _,
-        weight: _,
-    } = answer
-    {
-        if let Some(bytes) = export::export_accepted(board, index, items, text) {
-            return Exported { report, bytes };
-        }
+    let accepted = audit::audit(board, verdicts, roll, index, ballots)?;
+    match export::export_accepted(board, index, accepted.items, text) {
+        Some(bytes) => Ok(Exported { accepted, bytes }),
         // 2 short sheet
-        return Exported {
-            report: Report::refused(Refusal::ShortTable, 0),
-            bytes: 0,
-        };
+        None => Err(Refused {
+            refusal: Refusal::ShortTable,
+            items: 0,
+        }),
     }
-    Exported { report, bytes: 0 }
 }
