@@ -6,8 +6,8 @@ ghost use Rattle.index.specs.Kept.{before};
 ghost use Rattle.audit.specs.Outcome.{outcome_of};
 ghost use Rattle.compare.specs.Answer.{answer_of, Accepted};
 
-use compare::{Board, Comparison};
-use report::Answer;
+use compare::{Board, RefusedBoard};
+use pairs::Agreement;
 
 // Audits the later board, and answers for a kept board that was accepted.
 fn compare_later(
@@ -21,7 +21,7 @@ fn compare_later(
     number: usize,
     later_index: &mut [u32],
     later_ballots: &mut [u32],
-) -> Comparison
+) -> Result<Agreement, RefusedBoard>
     requires { Accepted kept.now kept_index.now kept_items kept_mains }
     ensures answer { answer_of result ≡ answer_later (before kept.now kept_items)
         (outcome_of later later_verdicts later_roll later_index later_ballots) number }
@@ -30,36 +30,28 @@ fn compare_later(
     ensures ballots { later_ballots.new
         ≡ ballots_after (outcome_of later later_verdicts later_roll later_index later_ballots) later_ballots.old }
 {
-    let r = audit::audit(
+    match audit::audit(
         later,
         later_verdicts,
         later_roll,
         later_index,
         later_ballots,
-    );
-    let answer = r.answer;
-    match answer {
-        Answer::Refused { refusal, items } => Comparison::Refused {
-            board: Board::Later,
-            refusal,
-            items,
-        },
-        Answer::Accepted {
-            items,
-            mains,
-            ballots: _,
-            weight: _,
-        } => compare::compare_accepted(
+    ) {
+        Ok(accepted) => compare::compare_accepted(
             kept,
             kept_index,
             kept_items,
             kept_mains,
             later,
             later_index,
-            items,
-            mains,
+            accepted.items,
+            accepted.mains,
             number,
         ),
+        Err(refused) => Err(RefusedBoard {
+            board: Board::Later,
+            refused,
+        }),
     }
 }
 
@@ -78,7 +70,7 @@ pub fn compare(
     kept_ballots: &mut [u32],
     later_index: &mut [u32],
     later_ballots: &mut [u32],
-) -> Comparison
+) -> Result<Agreement, RefusedBoard>
     ensures answer { answer_of result ≡ comparing_answer
         (outcome_of kept kept_verdicts kept_roll kept_index kept_ballots)
         (outcome_of later later_verdicts later_roll later_index later_ballots) number }
@@ -93,24 +85,12 @@ pub fn compare(
         (outcome_of kept kept_verdicts kept_roll kept_index kept_ballots)
         (outcome_of later later_verdicts later_roll later_index later_ballots) later_ballots.old }
 {
-    let r = audit::audit(kept, kept_verdicts, kept_roll, kept_index, kept_ballots);
-    let answer = r.answer;
-    match answer {
-        Answer::Refused { refusal, items } => Comparison::Refused {
-            board: Board::Kept,
-            refusal,
-            items,
-        },
-        Answer::Accepted {
-            items,
-            mains,
-            ballots: _,
-            weight: _,
-        } => compare_later(
+    match audit::audit(kept, kept_verdicts, kept_roll, kept_index, kept_ballots) {
+        Ok(accepted) => compare_later(
             kept,
             kept_index,
-            items,
-            mains,
+            accepted.items,
+            accepted.mains,
             later,
             later_verdicts,
             later_roll,
@@ -118,5 +98,9 @@ pub fn compare(
             later_index,
             later_ballots,
         ),
+        Err(refused) => Err(RefusedBoard {
+            board: Board::Kept,
+            refused,
+        }),
     }
 }
