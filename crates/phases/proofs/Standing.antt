@@ -18,12 +18,12 @@ use Rattle.model.proofs.Tests.{passes, facts}
 use Rattle.model.proofs.State.{any-first, any_last}
 use Rattle.model.proofs.Unchecked.{length-history}
 use Rattle.format.specs.Format.{format_of}
-use Rattle.format.specs.Phase.{phase_number}
+use Rattle.format.specs.declared.phase.Phase.TheVariants.{Voting, Extraction, Track}
 use Rattle.index.specs.Kept.{before, item_after}
 use Rattle.index.specs.declared.Known.{Known}
 use Rattle.state.specs.declared.State.{State}
 use Rattle.state.specs.Stands.{AtItem}
-use Rattle.state.proofs.Phases.{voting-phase, extraction-phase, track-phase}
+use Rattle.state.proofs.Phases.{in_phase, voting-phase, extraction-phase, track-phase}
 use Rattle.state.proofs.At.{at_code, at-session, at-time, session-in-range, session-is}
 use Rattle.phases.specs.Session.{IsSession}
 
@@ -50,33 +50,33 @@ module _ {board index : List ℕ} {s : State} {c : Known} (a : AtItem board inde
   unfolding extraction_ok ◌⇒◌
   extraction-before q = rw (any-intent, eq-eqb s.intent 0 q)
 
-  -- p is the item's phase
-  module _ (p : ℕ) (is : p ≡ phase_number c.item.head.code) where
-    after : s.intent ≢ 0 → extraction_ok h i ≡ (eqb p 2 || eqb p 3)
-    unfolding extraction_ok ◌⇒◌
-    after q =
-        let n = c.item.head.code in
-        rw (any-intent, ne_eqb s.intent 0 q, is, extraction-phase n, track-phase n, at_code a)
+  -- the tests of the item's phase
+  after : s.intent ≢ 0 → extraction_ok h i ≡ (in_phase Extraction c.item.head.code || in_phase Track c.item.head.code)
+  unfolding extraction_ok ◌⇒◌
+  after q =
+      let n = c.item.head.code in
+      rw (any-intent, ne_eqb s.intent 0 q, extraction-phase n, track-phase n, at_code a)
 
-    pub extraction-type : s.intent ≢ 0 → p ≡ 2 → eqb p 2 ≡ extraction_ok h i
-    extraction-type q e = rw (after q, eq-eqb p 2 e)
+  pub extraction-type : s.intent ≢ 0 → {r : Bool} → r ≡ in_phase Extraction c.item.head.code → r ≡ true → r ≡ extraction_ok h i
+  extraction-type q e t = rw (after q, ← e, t)
 
-    pub extraction-other : s.intent ≢ 0 → p ≢ 2 → eqb p 3 ≡ extraction_ok h i
-    extraction-other q e = rw (after q, ne_eqb p 2 e)
+  pub extraction-other : s.intent ≢ 0 → {r t : Bool} → r ≡ in_phase Extraction c.item.head.code → r ≡ false
+      → t ≡ in_phase Track c.item.head.code → t ≡ extraction_ok h i
+  extraction-other q e f g = rw (after q, ← e, f) g
 
-    -- ---- a round open at its own time
+  -- ---- a round open at its own time
 
-    voting : eqb p 1 ≡ between 16 21 (code i)
-    voting = rw (is, voting-phase c.item.head.code, at_code a)
+  voting : in_phase Voting c.item.head.code ≡ between 16 21 (code i)
+  voting = rw (voting-phase c.item.head.code, at_code a)
 
-    pub open-other : p ≢ 1 → true ≡ open_ok h i
-    unfolding open_ok ◌⇒◌
-    open-other e = rw (← voting, ne_eqb p 1 e)
+  pub open-other : in_phase Voting c.item.head.code ≡ false → true ≡ open_ok h i
+  unfolding open_ok ◌⇒◌
+  open-other e = rw (← voting, e)
 
-    pub open-voting : p ≡ 1 → (t : ℕ) → t ≡ pair (part c.item.time 2 board) → (r : Bool) → r ≡ any (is_open t) (rounds h)
-        → r ≡ open_ok h i
-    unfolding open_ok ◌⇒◌
-    open-voting e t own r q = rw (← voting, eq-eqb p 1 e) (q ∙ ap (λ (k : ℕ). any (is_open k) (rounds h)) (own ∙ at-time a))
+  pub open-voting : in_phase Voting c.item.head.code ≡ true → (t : ℕ) → t ≡ pair (part c.item.time 2 board) → (r : Bool) → r ≡ any (is_open t) (rounds h)
+      → r ≡ open_ok h i
+  unfolding open_ok ◌⇒◌
+  open-voting e t own r q = rw (← voting, e) (q ∙ ap (λ (k : ℕ). any (is_open k) (rounds h)) (own ∙ at-time a))
 
   -- ---- a threshold and an authorizer for a session
 

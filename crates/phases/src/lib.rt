@@ -4,49 +4,46 @@
 ghost use Rattle.std.specs.Prelude.{◌≡◌};
 ghost use Rattle.model.specs.Phase.{phase_ok};
 ghost use Rattle.model.specs.Only.{only_ok};
-ghost use Rattle.index.specs.Kept.{before, item_after};
 ghost use Rattle.lookup.specs.Buckets.{session_chain};
-ghost use Rattle.state.specs.Stands.{AtItem};
+ghost use Rattle.state.specs.Reached.{history_before, item_at};
 
-use index::Known;
-use state::State;
+use state::candidate::Candidate;
 
 mod only;
 mod phase;
 
 // 11 out of phase.
-pub fn phase_ok(board: &[u32], index: &[u32], sessions: &[u32], s: State, c: Known) -> bool
-    requires { (AtItem board.now index.now s c) × (sessions.now ≡ session_chain board.now s.items) }
-    ensures { result ≡ phase_ok (before board.now s.items) (item_after board.now s.items) }
+pub fn phase_ok(next: &Candidate, sessions: &[u32]) -> bool
+    requires { sessions.now ≡ session_chain next.now.board.now next.now.state.items }
+    ensures { result ≡ phase_ok (history_before next.now) (item_at next.now) }
 {
-    if !phase::extraction_ok(board, index, s, c) {
+    if !phase::extraction_ok(next) {
         return false;
     }
-    if !phase::open_ok(board, index, s, c) {
+    if !phase::open_ok(next) {
         return false;
     }
-    if !phase::standing_ok(board, index, s, c) {
+    if !phase::standing_ok(next) {
         return false;
     }
-    if !phase::latest_ok(board, index, sessions, s, c) {
+    if !phase::latest_ok(next, sessions) {
         return false;
     }
-    if !phase::intent_ok(board, index, s, c) {
+    if !phase::intent_ok(next) {
         return false;
     }
-    phase::spoiled_ok(board, index, s, c)
+    phase::spoiled_ok(next)
 }
 
 // 12 second.
-pub fn only_ok(board: &[u32], index: &[u32], s: State, c: Known) -> bool
-    requires { AtItem board.now index.now s c }
-    ensures { result ≡ only_ok (before board.now s.items) (item_after board.now s.items) }
+pub fn only_ok(next: &Candidate) -> bool
+    ensures { result ≡ only_ok (history_before next.now) (item_at next.now) }
 {
-    if !only::on_board_ok(board, index, s, c) {
+    if !only::on_board_ok(next) {
         return false;
     }
-    if !only::under_parent_ok(board, index, s, c) {
+    if !only::under_parent_ok(next) {
         return false;
     }
-    only::under_ballot_ok(board, index, s, c)
+    only::under_ballot_ok(next)
 }

@@ -1,12 +1,15 @@
 -- `only::under_parent_ok` meets its contract. Assumes nothing.
-use Rattle.phases.proofs.Results.{met, unmet}
+use mathlib.Core.Path.{sym, ◌∙◌}
+use Rattle.state.proofs.Had.{at-had}
 use Rattle.phases.proofs.Once.{parent-other, parent-some}
-use mathlib.Core.Path.{ap}
-use mathlib.Core.Bool.{not}
 use Rattle.phases.proofs.only.under_parent_ok.Goals as goal
 
 pub returns-then-not-is_single : goal.returns-then-not-is_single
-returns-then-not-is_single c = parent-other c.requires (unmet c.is_single.ensures (ap not c.if-not-is_single.true))
+returns-then-not-is_single c =
+    rw c.if-not-is_single.true
+    (parent-other (at-had c.args.next.now.at_item) (sym c.is_single.ensures ∙ c.if-not-is_single.true))
 
-pub returns : goal.returns
-returns c = parent-some c.requires (met c.is_single.ensures (ap not c.if-not-is_single.false)) _ c.has_child.ensures
+pub returns-else-not-is_single : goal.returns-else-not-is_single
+returns-else-not-is_single c =
+    parent-some (at-had c.args.next.now.at_item) (sym c.is_single.ensures ∙ c.if-not-is_single.false) _
+    (rw (c.passed.ensures.board, c.passed.ensures.count) at c.has_child.ensures)

@@ -1,25 +1,22 @@
 -- `phase::voter_of` meets its contract. Assumes nothing.
 use native.Mathlib.Omega.{arith}
-use Rattle.index.specs.Kept.{before}
+use Rattle.state.specs.Reached.{history_before}
 use Rattle.phases.proofs.Voter.{no-voter, session-range, voter-within, voter-is}
+use Rattle.state.proofs.Had.{at-had}
 use Rattle.phases.proofs.phase.voter_of.Goals as goal
 
 pub returns-then-session-eq0 : goal.returns-then-session-eq0
-returns-then-session-eq0 c = let a = c.args in no-voter (before a.board.now a.count) a.session c.if-session-eq0.true
+returns-then-session-eq0 c = no-voter (history_before c.args.next.now) c.args.session c.if-session-eq0.true
 
-pub entry-at-requires : goal.entry-at-requires
-entry-at-requires c =
-    record {
-      kept = c.requires.kept;
-      le_k = session-range c.requires.kept c.requires.session c.if-session-eq0.false;
-    }
+pub entry-requires : goal.entry-requires
+entry-requires c = session-range (at-had c.args.next.now.at_item).kept c.requires c.if-session-eq0.false
 
-pub offset_bounds-board-at : goal.offset_bounds-board-at
-offset_bounds-board-at c =
-    omega (arith, c.requires.kept.words, voter-within c.requires.kept c.requires.session c.if-session-eq0.false c.entry-at.ensures)
+pub offset_bounds-next-entry : goal.offset_bounds-next-entry
+offset_bounds-next-entry c =
+    omega (arith, (at-had c.args.next.now.at_item).kept.words, voter-within (at-had c.args.next.now.at_item).kept c.requires c.if-session-eq0.false c.entry.ensures)
 
-pub bounds-board-at : goal.bounds-board-at
-bounds-board-at c = voter-within c.requires.kept c.requires.session c.if-session-eq0.false c.entry-at.ensures
+pub bounds-next-entry : goal.bounds-next-entry
+bounds-next-entry c = voter-within (at-had c.args.next.now.at_item).kept c.requires c.if-session-eq0.false c.entry.ensures
 
 pub returns : goal.returns
-returns c = voter-is c.requires.kept c.requires.session c.if-session-eq0.false c.entry-at.ensures
+returns c = voter-is (at-had c.args.next.now.at_item).kept c.requires c.if-session-eq0.false c.entry.ensures
