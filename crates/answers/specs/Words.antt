@@ -6,8 +6,6 @@ use Rattle.model.specs.Comparing.{Board, kept_board, later_board, ComparingAnswe
 use Rattle.model.specs.Ancestry.{AncestryAnswer, unlisted, listed}
 use Rattle.watch.specs.Notes.{Disagreement, no_main_item, out_of_order, too_early, Agreement, not_held, all_agree, disagrees}
 use Rattle.planning.specs.Plan.{Plan}
-use Rattle.report.specs.declared.Answer.{Answer}
-use Rattle.report.specs.Reported.{answered}
 
 -- a buffer with the words over its first ones
 abbrev pub overwritten : List ℕ → List ℕ → List ℕ
@@ -26,10 +24,6 @@ head_words r = r.number ∷ r.items ∷ r.mains ∷ r.ballots ∷ r.weight / 2 ^
 -- behind those, the end address
 unfoldable pub answer_words : Report → List ℕ
 answer_words r = head_words r ++ r.end
-
--- of an answer that has no end address yet
-abbrev pub head_of : Answer → List ℕ
-head_of a = head_words (answered a [])
 
 -- ---- compare
 
