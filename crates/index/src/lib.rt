@@ -15,6 +15,7 @@ use format::head::Head;
 use format::item::Item;
 use format::limit::Limit;
 
+pub mod addition;
 pub mod passed;
 
 // An item that was passed, or one that is judged: where its parts stand, the item number of its parent (its own for genesis, 0 where it is

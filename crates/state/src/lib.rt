@@ -5,14 +5,13 @@ ghost use Rattle.std.specs.Prelude.{◌≡◌, List, ℕ, ◌+◌, ◌<◌, leng
 ghost use Rattle.model.specs.Words.{between};
 ghost use Rattle.model.specs.Counted.{counted};
 ghost use Rattle.index.specs.Kept.{before, item_after};
-ghost use Rattle.index.specs.Known.{Passing};
 ghost use Rattle.state.specs.After.{later, earliest, contests_after, slot_after};
 ghost use Rattle.state.specs.Stands.{Stands};
 
 use format::format::Format;
 use format::head::Head;
 use format::phase::Phase;
-use index::Known;
+use index::addition::Addition;
 
 pub mod candidate;
 pub mod progress;
@@ -61,30 +60,27 @@ impl State {
     }
 
     // The state with the item after them, which passes; `ballots` is the number of counted ballots with it.
-    pub fn after(self, board: &[u32], index: &[u32], c: Known, ballots: usize) -> Self
-        requires stands { Stands board.now self }
-        requires passing { Passing board.now index.now self.items c }
-        requires ballots_value { ballots ≡ length (counted (before board.now (self.items + 1))) }
-        ensures { (result.items ≡ self.items + 1) × (Stands board.now result) }
+    pub fn after(self, addition: &Addition, ballots: usize) -> Self
+        requires stands { Stands addition.now.board.now self }
+        requires count { addition.now.count ≡ self.items }
+        requires ballots_value { ballots ≡ length (counted (before addition.now.board.now (self.items + 1))) }
+        ensures { (result.items ≡ self.items + 1) × (Stands addition.now.board.now result) }
     {
         let n = self.items + 1;
-        let kind = c.item.head.kind;
-        let code = c.item.head.code;
-        let defined = self.contests;
-        let contests = contests_after(defined, board, index, self.items, c);
-        let slots = self.rounds;
-        let rounds = rounds_after(slots, board, index, self.items, c);
+        let item = addition.known.item;
+        let main = item.head.kind == Head::MAIN;
+        let code = item.head.code;
         Self {
-            place: c.item.end,
+            place: item.end,
             items: n,
-            mains: later(kind == Head::MAIN, self.mains + 1, self.mains),
-            last: later(kind == Head::MAIN, n, self.last),
+            mains: later(main, self.mains + 1, self.mains),
+            last: later(main, n, self.last),
             config: later(is_config(code), n, self.config),
             threshold: earliest(code == Head::THRESHOLD, n, self.threshold),
             authorizer: later(code == Head::AUTHORIZER, n, self.authorizer),
             intent: earliest(code == Head::INTENT, n, self.intent),
-            contests,
-            rounds,
+            contests: contests_after(self.contests, addition),
+            rounds: rounds_after(self.rounds, addition),
             ballots,
         }
     }
@@ -94,20 +90,14 @@ impl State {
 fn later(test: bool, n: usize, old: usize) -> usize
     ensures { result ≡ later test n old }
 {
-    if test {
-        return n;
-    }
-    old
+    if test { n } else { old }
 }
 
 // The number of the first item that passes a test, where item n is the next: old without it, 0 for none.
 fn earliest(test: bool, n: usize, old: usize) -> usize
     ensures { result ≡ earliest test n old }
 {
-    if old == 0 {
-        return later(test, n, 0);
-    }
-    old
+    if old == 0 { later(test, n, 0) } else { old }
 }
 
 // "The config is types 1 to 6."
@@ -118,39 +108,26 @@ fn is_config(code: u32) -> bool
 }
 
 // The defined contests with the next item: a type 3 defines one.
-fn contests_after(
-    contests: [u32; 8],
-    board: &[u32],
-    index: &[u32],
-    items: usize,
-    c: Known,
-) -> [u32; 8]
-    requires { Passing board.now index.now items c }
-    ensures { (k : ℕ) → k < 8 → get_or result k 0 ≡ contests_after k (get_or contests k 0) (item_after board.now items) }
+fn contests_after(contests: [u32; 8], addition: &Addition) -> [u32; 8]
+    ensures { (k : ℕ) → k < 8
+        → get_or result k 0 ≡ contests_after k (get_or contests k 0) (item_after addition.now.board.now addition.now.count) }
 {
-    if c.item.head.code == Head::CONTEST {
-        let at = c.item.content;
-        return sets::with(contests, board[at]);
+    let item = addition.known.item;
+    if item.head.code == Head::CONTEST {
+        return sets::with(contests, addition.board[item.content]);
     }
     contests
 }
 
 // The rounds in force with the next item: a type 6 takes the place of its number.
-fn rounds_after(
-    rounds: [u32; 16],
-    board: &[u32],
-    index: &[u32],
-    items: usize,
-    c: Known,
-) -> [u32; 16]
-    requires { Passing board.now index.now items c }
-    ensures { (j : ℕ) → j < 16 → get_or result j 0 ≡ slot_after (get_or rounds j 0) items j (item_after board.now items) }
+fn rounds_after(rounds: [u32; 16], addition: &Addition) -> [u32; 16]
+    ensures { (j : ℕ) → j < 16
+        → get_or result j 0 ≡ slot_after (get_or rounds j 0) addition.now.count j (item_after addition.now.board.now addition.now.count) }
 {
     let mut slots = rounds;
-    if c.item.head.code == Head::ROUND {
-        let at = c.item.content;
-        let j = words::wide(board[at]);
-        slots[j] = (items + 1) as u32;
+    let item = addition.known.item;
+    if item.head.code == Head::ROUND {
+        slots[addition.board[item.content] as usize] = (addition.count + 1) as u32;
     }
     slots
 }

@@ -8,6 +8,6 @@ pub returns-then-old-eq0 : goal.returns-then-old-eq0
 unfolding later earliest if◌then◌otherwise◌
 returns-then-old-eq0 c = rw (eq-eqb _ _ c.if-old-eq0.true) c.later.ensures
 
-pub returns : goal.returns
+pub returns-else-old-eq0 : goal.returns-else-old-eq0
 unfolding earliest if◌then◌otherwise◌
-returns c = rw (ne_eqb _ _ c.if-old-eq0.false)
+returns-else-old-eq0 c = rw (ne_eqb _ _ c.if-old-eq0.false)

@@ -7,6 +7,6 @@ pub returns-then-test : goal.returns-then-test
 unfolding later if◌then◌otherwise◌
 returns-then-test c = rw c.if-test.true
 
-pub returns : goal.returns
+pub returns-else-test : goal.returns-else-test
 unfolding later if◌then◌otherwise◌
-returns c = rw c.if-test.false
+returns-else-test c = rw c.if-test.false

@@ -3,19 +3,23 @@ use Prim.Native.Nat.{◌+◌}
 use native.Mathlib.Omega.{arith}
 use mathlib.Core.Bool.{Bool}
 use mathlib.Core.Path.{refl, ap, ◌∙◌}
+use Rattle.index.proofs.Had.{passing-had}
 use Rattle.state.specs.After.{later}
 use Rattle.state.proofs.Next.{passing-next}
 use Rattle.state.proofs.Step.{mains-few, stands_after}
 use Rattle.state.proofs.State.after.Goals as goal
 
 pub overflow_add-self : goal.overflow_add-self
-overflow_add-self c = omega (arith, mains-few c.args.board.now c.args.self c.requires.stands, c.requires.passing.more)
+overflow_add-self c =
+    let a = c.args.addition.now in
+    omega (arith, mains-few a.board.now c.args.self c.requires.stands, (passing-had a.passing).more, c.requires.count)
 
 pub returns : goal.returns
 returns c =
-    let old = c.args.self in (
+    let old = c.args.self in
+    let a = c.args.addition.now in (
       refl,
-      stands_after c.requires.stands (passing-next c.requires.passing) (record {
+      stands_after c.requires.stands (passing-next (rw c.requires.count at (passing-had a.passing))) (record {
         place = refl;
         items = refl;
         mains = c.later.ensures;
@@ -25,8 +29,8 @@ returns c =
         threshold = c.earliest.ensures;
         authorizer = c.later-4.ensures;
         intent = c.earliest-2.ensures;
-        contests = c.contests_after-contests.ensures;
-        rounds = c.rounds_after-rounds.ensures;
+        contests = rw c.requires.count at c.contests_after.ensures;
+        rounds = rw c.requires.count at c.rounds_after.ensures;
         ballots = c.requires.ballots_value;
       }),
     )
