@@ -1,10 +1,12 @@
 -- Laws of decimal digits: how many there are, and the last of them. Assumes nothing.
 use Prim.Native.Nat.{ℕ, zero, suc, ◌+◌, ◌/◌, ◌%◌, ◌^◌, ◌≤◌, ◌<◌}
 use native.Mathlib.Omega.{arith}
-use mathlib.Core.Path.{◌≡◌, refl, ap, ◌∙◌}
+use mathlib.Core.Path.{◌≡◌, refl, sym, ap, ◌∙◌}
 use mathlib.Core.List.{List, [], ◌∷◌, ◌++◌, append-nil}
 use lib.ListN.{length, length-append}
 use borrow.Author.Tests.{lt-ltb, le-ltb}
+use Rattle.std.specs.Fmt as std
+use Rattle.std.proofs.lemmas.Fmt.{decimal_by_steps}
 use Rattle.model.specs.Program.{space, digit, digits, decimal, spaced}
 use Rattle.text.specs.Put.{Put}
 use Rattle.model.proofs.Decimal.{enough, digits_same, length-decimal}
@@ -42,14 +44,13 @@ length_more n l = ap length (decimal-more n l) ∙ length-append (decimal (n / 1
 pub length-spaced : (n : ℕ) → length (spaced (n ∷ [])) ≡ 1 + length (decimal n)
 length-spaced n = rw spaced-one (omega arith)
 
--- ---- digits put into bytes
+-- the library's digits
+pub decimal-is : (n : ℕ) → n < 2 ^ 64 → std.decimal n ≡ decimal n
+decimal-is =
+    decimal_by_steps (λ n ds. ds ≡ decimal n) (λ n l. sym (decimal-one n l))
+    (λ n ds l e. rw e (sym (decimal-more n l)))
 
-module _ {l m : List ℕ} {i k : ℕ} (n x : ℕ) where
-  pub put_one : n < 10 → x ≡ digit n → Put l i (x ∷ []) m k → Put l i (decimal n) m k
-  put_one h e p = rw (decimal-one n h, ← e) p
-
-  pub put_last : {o : List ℕ} {j : ℕ} → 10 ≤ n → x ≡ digit (n % 10) → Put l i (decimal (n / 10)) o j → Put o j (x ∷ []) m k → Put l i (decimal n) m k
-  put_last h e p q = rw (decimal-more n h, ← e) (put_then p q)
+-- ---- a number put into bytes
 
 pub put-spaced : {l o m : List ℕ} {i j k : ℕ} (n : ℕ) → Put l i (space ∷ []) o j → Put o j (decimal n) m k → Put l i (spaced (n ∷ [])) m k
 put-spaced n p q = rw spaced-one (put_then p q)

@@ -1,12 +1,11 @@
 -- Laws of text put into bytes: one text after another, and text at the start. Assumes nothing.
 use Prim.Native.Nat.{ℕ, suc, ◌+◌, ◌≤◌, ◌<◌}
 use native.Mathlib.Nat.{add-zero, zero-add, add-suc, suc-add, add_assoc}
-use native.Mathlib.Numerals.{add-one}
 use native.Mathlib.Omega.{arith}
 use mathlib.Core.Path.{◌≡◌, refl, sym, ap, ◌∙◌}
 use mathlib.Core.List.{List, [], ◌∷◌, ◌++◌}
-use lib.ListN.{length, take, get_or, set, length-append}
-use lib.Seq.{sets, sets-eq, length-sets, take-suc}
+use lib.ListN.{length, set, length-append}
+use lib.Seq.{sets, sets-eq, length-sets}
 use Rattle.text.specs.Put.{Put, Shown}
 
 sets-append : (l : List ℕ) (i : ℕ) (a b : List ℕ) → sets l i (a ++ b) ≡ sets (sets l i a) (i + length a) b
@@ -32,11 +31,6 @@ put_then {l} {m} {n} {i} {j} {k} {a} {b} p q = record {
   wrote = q.wrote ∙ rw (p.wrote, p.behind) (sym (sets-append l i a b));
   behind = q.behind ∙ rw (p.behind, length-append) (add_assoc i (length a) (length b));
 }
-
--- one byte more of a text
-pub put-more : {l m : List ℕ} {i : ℕ} (s : List ℕ) (k : ℕ) → k < length s → i + k < length m → Put l i (take k s) m (i + k)
-    → Put l i (take (k + 1) s) (set m (i + k) (get_or s k 0)) (i + (k + 1))
-put-more {l} {m} {i} s k h r p = rw (← add_assoc, add-one k, take-suc s k 0 h) (put_then p (put_byte m (i + k) (get_or s k 0) r))
 
 -- text at the start
 pub put-start : {l m : List ℕ} {s : List ℕ} {k : ℕ} → Put l 0 s m k → Shown l s m k

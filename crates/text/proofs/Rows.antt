@@ -5,6 +5,9 @@ use mathlib.Core.Path.{◌≡◌, refl, sym, ap, ◌∙◌}
 use mathlib.Core.List.{List, [], ◌∷◌, ◌++◌, append_assoc}
 use lib.ListN.{length, take, drop, get_or, length-take}
 use lib.Seq.{take-add, drop-cons}
+use lib.Seq.{get_or-take, get_or-drop}
+use Rattle.std.specs.Simd.{first_chunks}
+use Rattle.words.proofs.Runs.{get_or-chunks}
 use Rattle.model.specs.Audit.{ballot_row}
 use Rattle.model.specs.Program.{decimal, spaced, line, row_lines}
 use Rattle.text.specs.Put.{Put}
@@ -31,6 +34,16 @@ take-three t p h =
     let one : p + 1 ≡ suc p = omega arith in
     let two : p + 2 ≡ suc (suc p) = omega arith in
     rw (drop-cons t p 0 h₀, drop-cons t (suc p) 0 h₁, drop-cons t (suc (suc p)) 0 h₂, one, two)
+
+-- word j of row k, where the first rows are cut into chunks
+pub row-word : (t : List ℕ) (chunks : List (List ℕ)) (n rows k j : ℕ) → chunks ≡ first_chunks 3 n (take (ballot_row * rows) t) → k < n → k < rows → j < 3
+    → get_or (get_or chunks k []) j 0 ≡ get_or t (ballot_row * k + j) 0
+row-word t chunks n rows k j e l m b =
+    let place : k * 3 + j ≡ ballot_row * k + j = omega arith in
+    let inside : ballot_row * k + j < ballot_row * rows = omega arith in
+    let first = take (ballot_row * rows) t in
+    rw (e, get_or-chunks 3 first n k [] l, get_or-take 3 (drop (k * 3) first) j 0 b, get_or-drop, place)
+    (get_or-take (ballot_row * rows) t (ballot_row * k + j) 0 inside)
 
 module _ (t : List ℕ) (k : ℕ) where
   -- the line of row k

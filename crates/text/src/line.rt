@@ -54,12 +54,10 @@ pub fn row_lines(out: &mut [u8], at: usize, table: &[u32], rows: usize) -> usize
     requires rows { ballot_row * rows ≤ length table.now }
     ensures { Put out.old at (row_lines (take (ballot_row * rows) table.now)) out.new result }
 {
+    let (words, _) = table[..ROW * rows].as_chunks::<ROW>();
     let mut end = at;
-    let mut k = 0;
-    while k < rows {
-        let row = ROW * k;
-        end = row_line(out, end, table[row], table[row + 1], table[row + 2]);
-        k += 1;
+    for row in words {
+        end = row_line(out, end, row[0], row[1], row[2]);
     }
     end
 }

@@ -12,7 +12,7 @@ use Rattle.std.specs.Simd.{first_chunks}
 use Rattle.model.specs.Program.{from_bytes}
 use Rattle.model.proofs.Program.{length-from-bytes}
 use Rattle.words.specs.Bytes.{word_of, word_at, to_bytes}
-use Rattle.words.proofs.Runs.{write-more}
+use Rattle.words.proofs.Runs.{get_or-chunks, write-more}
 
 -- word i is that of the four bytes at 4 * i
 pub get_or-from_bytes : (bs : List ℕ) (i p : ℕ) → p ≡ i * 4 → i < length bs / 4 → get_or (from_bytes bs) i 0 ≡ word_at bs p
@@ -29,14 +29,6 @@ get_or-from_bytes (a ∷ b ∷ c ∷ d ∷ bs) (suc i) (suc zero) e h = absurd (
 get_or-from_bytes (a ∷ b ∷ c ∷ d ∷ bs) (suc i) (suc (suc zero)) e h = absurd (omega arith)
 get_or-from_bytes (a ∷ b ∷ c ∷ d ∷ bs) (suc i) (suc (suc (suc zero))) e h = absurd (omega arith)
 
--- chunk i of the first n chunks of four bytes, and its word
-get_or-fours : (bs : List ℕ) (n i : ℕ) (d : List ℕ) → i < n → get_or (first_chunks 4 n bs) i d ≡ take 4 (drop (i * 4) bs)
-get_or-fours bs zero i d h = absurd (omega arith)
-get_or-fours bs (suc n) zero d h = refl
-get_or-fours bs (suc n) (suc i) d h =
-    let place : 4 + i * 4 ≡ suc i * 4 = omega arith in
-    get_or-fours (drop 4 bs) n i d (omega arith) ∙ rw (drop-drop, place)
-
 word-first : (xs : List ℕ) → from_be_bytes w32 (take 4 xs) ≡ word_of (get_or xs 0 0) (get_or xs 1 0) (get_or xs 2 0) (get_or xs 3 0)
 word-first [] = refl
 word-first (a ∷ []) = refl
@@ -48,7 +40,7 @@ word-four : (bs : List ℕ) (p : ℕ) → from_be_bytes w32 (take 4 (drop p bs))
 word-four bs p = word-first (drop p bs) ∙ simp (get_or-drop, add-zero)
 
 pub four-is : (bs : List ℕ) (i : ℕ) (d : List ℕ) → i < length bs / 4 → from_be_bytes w32 (get_or (first_chunks 4 (length bs / 4) bs) i d) ≡ word_at bs (i * 4)
-four-is bs i d h = rw (get_or-fours bs (length bs / 4) i d h) (word-four bs (i * 4))
+four-is bs i d h = rw (get_or-chunks 4 bs (length bs / 4) i d h) (word-four bs (i * 4))
 
 -- a word more of those that the bytes hold, and all of them
 module _ (bs d : List ℕ) (i : ℕ) where

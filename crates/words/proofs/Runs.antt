@@ -1,11 +1,13 @@
 -- Laws of runs of words: two runs compared word by word, and a list written word by word. Assumes nothing.
 use mathlib.Core.Path.{◌≡◌, refl, sym, ap, ◌∙◌}
 use mathlib.Core.List.{List, [], ◌∷◌, ◌++◌}
-use Prim.Native.Nat.{ℕ, suc, ◌+◌, ◌-◌, ◌*◌, ◌^◌, ◌≤◌, ◌<◌}
+use Rattle.std.specs.Simd.{first_chunks}
+use native.Mathlib.Nat.{zero-mul, suc-mul, add_comm}
+use Prim.Native.Nat.{ℕ, zero, suc, ◌+◌, ◌-◌, ◌*◌, ◌^◌, ◌≤◌, ◌<◌}
 use native.Mathlib.Numerals.{add-one}
 use native.Mathlib.Omega.{arith}
 use lib.ListN.{length, take, drop, get_or, set, length-take, replicate}
-use lib.Seq.{drop-cons, get_or-drop, get_or-take, take-suc, append_snoc, set_at}
+use lib.Seq.{drop-drop, drop-cons, get_or-drop, get_or-take, take-suc, append_snoc, set_at}
 use lib.Dec.{eqb}
 use Rattle.model.specs.Lists.{part}
 use Rattle.model.specs.Words.{pair, same_words}
@@ -24,6 +26,12 @@ get_or-part s p n k h = rw (get_or-take, get_or-drop)
 pub slice-part : (s : List ℕ) (i n j : ℕ) → i + n ≡ j → take (j - i) (drop i s) ≡ part i n s
 unfolding part
 slice-part s i n j e = let same : j - i ≡ n = omega arith in rw same
+
+-- element i of the first n chunks of a size
+pub get_or-chunks : (size : ℕ) (xs : List ℕ) (n i : ℕ) (d : List ℕ) → i < n → get_or (first_chunks size n xs) i d ≡ take size (drop (i * size) xs)
+get_or-chunks size xs zero i d h = absurd (omega arith)
+get_or-chunks size xs (suc n) zero d h = rw zero-mul
+get_or-chunks size xs (suc n) (suc i) d h = get_or-chunks size (drop size xs) n i d (omega arith) ∙ rw (drop-drop, suc-mul, add_comm)
 
 -- two words
 pub part-two : (s : List ℕ) (p : ℕ) → p + 2 ≤ length s → part p 2 s ≡ get_or s p 0 ∷ get_or s (p + 1) 0 ∷ []

@@ -1,19 +1,27 @@
--- `text::line::row_lines` meets its contract. The invariant: the lines of the first k rows are put. Assumes nothing.
+-- `text::line::row_lines` meets its contract. The invariant: the lines of the first rows are put. Assumes nothing.
 use mathlib.Core.Path.{refl, ◌∙◌}
 use Rattle.model.specs.Program.{row_lines}
 use Rattle.text.proofs.Placed.{put-none}
-use Rattle.text.proofs.Rows.{put-row-more}
+use Rattle.text.proofs.Rows.{row-word, put-row-more}
+use Prim.Native.Nat.{ℕ, ◌*◌, ◌<◌}
+use native.Mathlib.Nat.{add-zero}
+use lib.ListN.{length-take}
 use native.Mathlib.Omega.{arith}
 use borrow.Author.Rules.{rules}
 use Rattle.text.proofs.line.row_lines.Goals as goal
 
-pub loop-k-init : goal.loop-k-init
+pub loop-row-init : goal.loop-row-init
 unfolding row_lines
-loop-k-init c = (search rules, put-none c.args.out.now c.args.at c.args.at (omega arith) refl, search rules, search rules)
+loop-row-init c = record { put = put-none c.args.out.now c.args.at c.args.at (omega arith) refl; most = search rules; length = search rules }
 
-pub loop-k-preserved : goal.loop-k-preserved
-loop-k-preserved c =
+pub loop-row-preserved : goal.loop-row-preserved
+loop-row-preserved c =
+    let t = c.args.table.now in
+    let k = c.loop-row.row-index in
+    let words = c.as_chunks.result.0.now in
+    let less : k < c.args.rows = omega (arith, c.as_chunks.ensures.front_len, length-take (3 * c.args.rows) t) in
+    let word = λ (j : ℕ) (b : j < 3). row-word t words _ c.args.rows k j c.as_chunks.ensures.front (omega (arith, c.as_chunks.ensures.front_len)) less b in
     let row = c.row_line-end in
-    let more = put-row-more c.args.table.now c.loop-k.k c.loop-k-test.true c.requires.rows (λ i. (c.type_inv.table i).fits)
-    c.loop-k.invariant.1 c.loop-k.invariant.2 row.ensures in
-    (more.0, more.1, more.2, row.auto.out ∙ c.loop-k.invariant.3)
+    let line = rw (word 0 (omega arith), word 1 (omega arith), word 2 (omega arith), add-zero) at row.ensures in
+    let more = put-row-more t k less c.requires.rows (λ i. (c.type_inv.table i).fits) c.loop-row.invariant.put c.loop-row.invariant.most line in
+    record { put = more.1; most = more.2; length = row.auto.out ∙ c.loop-row.invariant.length }

@@ -1,9 +1,12 @@
--- `text::put::bytes` meets its contract. The invariant: the first i bytes of the text are put. Assumes nothing.
-use Rattle.text.proofs.Placed.{put-more}
-use native.Mathlib.Omega.{arith}
-use borrow.Author.Rules.{rules}
+-- `text::put::bytes` meets its contract. Assumes nothing.
+use mathlib.Core.Path.{refl}
+use Rattle.words.proofs.Writing.{part-sets}
 use Rattle.text.proofs.put.bytes.Goals as goal
 
-pub loop-i-preserved : goal.loop-i-preserved
-loop-i-preserved c =
-    (search rules, put-more c.args.text.now c.loop-i.i (omega arith) (omega arith) c.loop-i.invariant.1, search rules)
+pub returns : goal.returns
+returns c =
+    let x = c.args in record {
+      fits = c.requires;
+      wrote = part-sets x.out.now _ x.text.now x.at _ c.copy_from_slice.ensures.after refl c.requires;
+      behind = refl;
+    }
