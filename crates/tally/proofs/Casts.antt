@@ -7,9 +7,9 @@ use mathlib.Core.Bool.{false}
 use mathlib.Core.List.{List, [], ◌∷◌, ◌++◌}
 use lib.ListN.{length, get_or, take, length-append}
 use lib.Seq.{sets, length-sets, length-take-le, take-suc}
-use lib.Dec.{T, eqb, eqb→eq}
+use lib.Dec.{T, eqb, eqb→eq, lit<}
 use borrow.Author.Tests.{ne_eqb, le-leb}
-use Rattle.model.specs.Lists.{count}
+use Rattle.model.specs.Lists.{part, count}
 use Rattle.model.specs.Item.{code, is_main, word}
 use Rattle.model.specs.Types.{in_session}
 use Rattle.model.specs.History.{History, Entry, entry, item_no, absent, main, main_number, typed, place_of, history, entry_of, parent_number, session_number}
@@ -28,9 +28,8 @@ use Rattle.index.specs.declared.Known.{Known}
 use Rattle.index.specs.Kept.{before, item_after, Kept}
 use Rattle.index.specs.Known.{IsKnown, Passing}
 use Rattle.index.proofs.Counts.{has_words, entry-words}
+use Rattle.words.proofs.Runs.{get_or-part}
 use Rattle.index.proofs.Reading.{known-item, known-word}
-use Rattle.state.specs.declared.State.{State}
-use Rattle.state.specs.Stands.{Stands}
 use Rattle.state.proofs.Next.{passing-next, next-code, next-parent, next-session}
 use Rattle.tally.specs.Rows.{HoldsRows}
 use Rattle.tally.specs.Tallied.{Tallied}
@@ -121,15 +120,20 @@ module _ {board index : List ℕ} {n : ℕ} {c : Known} (p : Passing board index
           let (s, l, t) = session-in in
           rw (known-item k) (entry-words p.kept c.session s l 16 19 26 tt (eqb→eq _ _ t)).0
 
-      pub voter-is : get_or board e.item.content 0 ≡ vote.voter
-      unfolding vote vote_of entry_of
-      voter-is =
-          let none : e.item.content + 0 ≡ e.item.content = omega arith in
-          rw none at (known-word k 0 (omega (arith, session-words))) ∙ ap (λ (m : ℕ). word 0 (item_no (before board n) m)) (next-session (passing-next p))
+      module _ (content : List ℕ) (is : content ≡ part e.item.content e.item.head.count board) where
+        session-word : (j : ℕ) → j < 19 → get_or content j 0 ≡ word j (item_no (before board n) (session_number (before board n) (item_after board n)))
+        session-word j l =
+            rw is (get_or-part board e.item.content e.item.head.count j (omega (arith, session-words)))
+            ∙ known-word k j (omega (arith, session-words))
+            ∙ ap (λ (m : ℕ). word j (item_no (before board n) m)) (next-session (passing-next p))
 
-      pub weight_is : get_or board (e.item.content + 1) 0 ≡ vote.weight
-      unfolding vote vote_of entry_of
-      weight_is = known-word k 1 (omega (arith, session-words)) ∙ ap (λ (m : ℕ). word 1 (item_no (before board n) m)) (next-session (passing-next p))
+        pub voter-is : get_or content 0 0 ≡ vote.voter
+        unfolding vote vote_of entry_of
+        voter-is = session-word 0 (lit< tt)
+
+        pub weight_is : get_or content 1 0 ≡ vote.weight
+        unfolding vote vote_of entry_of
+        weight_is = session-word 1 (lit< tt)
 
     pub ballot-is : main_number (before board n) c.parent ≡ vote.ballot
     unfolding vote vote_of entry_of
@@ -137,16 +141,17 @@ module _ {board index : List ℕ} {n : ℕ} {c : Known} (p : Passing board index
 
 -- ---- the table after it
 
-module _ {board index ballots : List ℕ} {s : State} {c : Known} (p : Passing board index s.items c) (stands : Stands board s)
-    (t : Tallied board ballots s.items) where
+-- it has so many rows
+module _ {board index ballots : List ℕ} {n rows : ℕ} {c : Known} (p : Passing board index n c) (size : rows ≡ length (counted (before board n)))
+    (t : Tallied board ballots n) where
   pub after_same : (c.item.head.code ≡ 20 → ⊥)
-      → Tallied board ballots (s.items + 1) × (s.ballots ≡ length (counted (before board (s.items + 1))))
-  after_same q = (record { rows = rw (counted_same p q) t.rows; room = t.room }, rw (counted_same p q) stands.ballots)
+      → Tallied board ballots (n + 1) × (rows ≡ length (counted (before board (n + 1))))
+  after_same q = (record { rows = rw (counted_same p q) t.rows; room = t.room }, rw (counted_same p q) size)
 
   -- a cast of the voter v, whose rows were dropped
-  module _ (cast : c.item.head.code ≡ 20) (v r : ℕ) (voter : v ≡ (vote p).voter) (l : List ℕ) (size : length l ≡ length ballots)
-      (kept : HoldsRows l r (without v (counted (before board s.items)))) where
-    counted_is : counted (before board (s.items + 1)) ≡ without v (counted (before board s.items)) ++ (vote p ∷ [])
+  module _ (cast : c.item.head.code ≡ 20) (v r : ℕ) (voter : v ≡ (vote p).voter) (l : List ℕ) (same : length l ≡ length ballots)
+      (kept : HoldsRows l r (without v (counted (before board n)))) where
+    counted_is : counted (before board (n + 1)) ≡ without v (counted (before board n)) ++ (vote p ∷ [])
     counted_is = counted-more p cast ∙ rw (← voter)
 
     -- one row more still fits: the table has room for as many as there can be
@@ -155,10 +160,10 @@ module _ {board index ballots : List ℕ} {s : State} {c : Known} (p : Passing b
 
     pub after-cast : (ballot weight : ℕ) (more : List ℕ)
         → ballot ≡ (vote p).ballot → weight ≡ (vote p).weight → more ≡ sets l (ballot_row * r) (ballot ∷ v ∷ weight ∷ [])
-        → Tallied board more (s.items + 1) × (r + 1 ≡ length (counted (before board (s.items + 1))))
+        → Tallied board more (n + 1) × (r + 1 ≡ length (counted (before board (n + 1))))
     after-cast ballot weight more b w e =
-        let put = holds-put l r (without v (counted (before board s.items))) (vote p) kept row_fits.1 in
-        let same : more ≡ sets l (ballot_row * r) ((vote p).ballot ∷ (vote p).voter ∷ (vote p).weight ∷ []) = e ∙ rw (b, voter, w) in (
-          record { rows = rw (counted_is, same) put.rows; room = rw (same, length-sets l (ballot_row * r) _) (omega (arith, t.room)) },
+        let put = holds-put l r (without v (counted (before board n))) (vote p) kept row_fits.1 in
+        let written : more ≡ sets l (ballot_row * r) ((vote p).ballot ∷ (vote p).voter ∷ (vote p).weight ∷ []) = e ∙ rw (b, voter, w) in (
+          record { rows = rw (counted_is, written) put.rows; room = rw (written, length-sets l (ballot_row * r) _) (omega (arith, t.room)) },
           rw counted_is put.number,
         )

@@ -19,7 +19,7 @@ pub holds_rows : {board ballots : List ℕ} {s : State} → Stands board s → T
 holds_rows stands t = record { rows = t.rows; number = stands.ballots }
 
 -- those of the first n items, which pass
-counted-fit : {board index : List ℕ} {n : ℕ} → Kept board index n → length (counted (before board n)) ≤ ballot_limit
+pub counted-fit : {board index : List ℕ} {n : ℕ} → Kept board index n → length (counted (before board n)) ≤ ballot_limit
 counted-fit {board} {n = n} kept = few-ballots kept.passed (omega (arith, length-history (format_of board) board n, kept.few))
 
 module _ {board index : List ℕ} {s : State} (kept : Kept board index s.items) (stands : Stands board s) where

@@ -1,11 +1,11 @@
 -- What the fingerprint is fed: the main number of a row leads to a ballot on the board, whose content is the vote's. Assumes nothing.
-use Prim.Native.Nat.{ℕ, zero, suc, ◌+◌, ◌-◌, ◌*◌, ◌≤◌, ◌<◌}
+use Prim.Native.Nat.{ℕ, zero, suc, ◌+◌, ◌≤◌, ◌<◌}
 use native.Mathlib.Nat.{add-zero, mod-lt}
 use native.Mathlib.Numerals.{add-one}
 use native.Mathlib.Omega.{arith}
 use mathlib.Core.Path.{◌≡◌, sym, ap, ◌∙◌}
-use mathlib.Core.List.{List, [], ◌∷◌, ◌++◌, append_assoc, append-nil}
-use lib.ListN.{length, get_or, take, drop, length-take, length-drop}
+use mathlib.Core.List.{List, [], ◌∷◌, ◌++◌, map, append_assoc, append-nil}
+use lib.ListN.{length, get_or, take}
 use lib.Seq.{take-suc, take_all}
 use lib.Dec.{T, lit<}
 use Rattle.model.specs.Lists.{if◌then◌otherwise◌, part, count}
@@ -16,18 +16,16 @@ use Rattle.model.specs.History.{History, Entry, absent, entry, item_no, main, ma
 use Rattle.model.specs.Counted.{Vote, vote_of, votes_in, same_voter, counted, contents}
 use Rattle.model.specs.Roll.{Eligibility}
 use Rattle.model.specs.Sound.{Passed}
-use Rattle.model.specs.Audit.{ballot_row}
 use Rattle.model.proofs.Tests.{by-test, is_true}
+use Rattle.model.proofs.Parts.{length_part}
 use Rattle.model.proofs.Lists.{Every, every-at, every-keep, every-latest}
 use Rattle.model.proofs.Entries.{Fine, orderly, each-fine, typed-main}
-use Rattle.model.specs.Report.{ballot_rows}
 use Rattle.model.proofs.Unchecked.{length-history}
 use Rattle.sha256.specs.declared.Hash.{Hash}
 use Rattle.sha256.specs.State.{fed, Holds}
 use Rattle.sha256.proofs.Holds.{holds-fed}
 use Rattle.format.specs.Format.{format_of}
 use Rattle.format.specs.Layout.{item_of}
-use Rattle.format.specs.declared.item.Item.{Item}
 use Rattle.format.proofs.Places.{content-is}
 use Rattle.index.specs.declared.Known.{Known}
 use Rattle.index.specs.Kept.{before, Kept}
@@ -37,8 +35,8 @@ use Rattle.lookup.specs.Search.{main_from, main_entry}
 use Rattle.state.specs.declared.State.{State}
 use Rattle.state.specs.Stands.{Stands}
 use Rattle.tally.specs.Tallied.{Tallied}
-use Rattle.tally.proofs.Table.{none, row_of}
-use Rattle.tally.proofs.Fit.{holds_rows}
+use Rattle.tally.specs.Rows.{row_words}
+use Rattle.tally.proofs.Table.{none, row-ballot}
 
 -- ---- main numbers lead to main items
 
@@ -106,37 +104,18 @@ unfolding contents
 contents-snoc [] x = append-nil x.content
 contents-snoc (y ∷ ys) x = rw (contents-snoc ys x, append_assoc)
 
--- ---- a content as a slice of the board
-
--- it lies within the board, which has so many words, and is short
-pub record ContentIn (it : Item) (words : ℕ) : Type 0 where
-  pub start : it.content ≤ it.parent
-  pub end : it.parent ≤ words
-  pub short : it.parent ≤ it.content + 65535
+-- ---- a content on the board
 
 module _ {board : List ℕ} {e : Entry} {r : Known} (k : IsKnown board e r) where
-  content-ends : r.item.parent ≡ r.item.content + r.item.head.count
-  unfolding item_of
-  content-ends = rw (known-item k)
-
   content-short : r.item.head.count ≤ 65535
   unfolding item_of count_of
   content-short = rw (known-item k) (omega (arith, mod-lt (get_or board e.place 0) {m = 65536} (lit< tt)))
 
-  pub content-in : ContentIn r.item (length board)
-  content-in =
-      let ends = content-ends in
-      let short = content-short in
-      record { start = omega arith; end = omega (arith, (known-within k).content); short = omega arith }
+  pub content-few : length (part r.item.content r.item.head.count board) ≤ 65535
+  content-few = omega (arith, content-short, length_part r.item.content r.item.head.count board (known-within k).content)
 
-  pub content-few : length (take (r.item.parent - r.item.content) (drop r.item.content board)) ≤ 65535
-  content-few = let w = content-in in simp (length-take, length-drop) (omega arith)
-
-  content-slice : take (r.item.parent - r.item.content) (drop r.item.content board) ≡ e.item.content
-  unfolding part
-  content-slice =
-      let size : r.item.parent - r.item.content ≡ r.item.head.count = omega (arith, content-ends) in
-      rw (size, known-item k) (content-is board e.place) ∙ ap (λ (i : model.Item). i.content) (sym k.item)
+  content-words : part r.item.content r.item.head.count board ≡ e.item.content
+  content-words = rw (known-item k) (content-is board e.place) ∙ ap (λ (i : model.Item). i.content) (sym k.item)
 
 -- ---- the rows, one by one
 
@@ -154,17 +133,20 @@ module _ {board index ballots : List ℕ} {s : State} (kept : Kept board index s
     unfolding vote
     vote-found = every-at _ (counted (before board s.items)) k none (counted-found kept.passed) (omega (arith, stands.ballots))
 
-    number_is : get_or ballots (ballot_row * k) 0 ≡ vote.ballot
-    unfolding vote ballot_rows
-    number_is = rw add-zero at (row_of ballots s.ballots (counted (before board s.items)) (holds_rows stands t) k 0 more (lit< tt))
+    module _ (rows : List (List ℕ)) (are : rows ≡ map row_words (counted (before board s.items)))
+        (item : ℕ) (found : item ≡ main_entry (before board s.items) (get_or (get_or rows k []) 0 0)) where
+      number_is : get_or (get_or rows k []) 0 0 ≡ vote.ballot
+      unfolding vote
+      number_is =
+          ap (λ (ws : List (List ℕ)). get_or (get_or ws k []) 0 0) are
+          ∙ row-ballot (counted (before board s.items)) k [] (omega (arith, stands.ballots))
 
-    module _ (item : ℕ) (found : item ≡ main_entry (before board s.items) (get_or ballots (ballot_row * k) 0)) where
       pub item_in : (1 ≤ item) × (item ≤ s.items)
       item_in = rw (found, number_is) (vote-found.some, omega (arith, vote-found.inside, length-history (format_of board) board s.items))
 
       -- the hash was fed one more content
       pub message-more : (e : Known) → IsKnown board (entry (before board s.items) item) e → (a b : Hash)
-          → b ≡ fed a (take (e.item.parent - e.item.content) (drop e.item.content board))
+          → b ≡ fed a (part e.item.content e.item.head.count board)
           → Holds a (contents (take k (counted (before board s.items)))) → Holds b (contents (take (k + 1) (counted (before board s.items))))
       unfolding vote
       message-more e known a b next-hash h =
@@ -173,4 +155,4 @@ module _ {board index ballots : List ℕ} {s : State} (kept : Kept board index s
           ap (λ (m : ℕ). (item_no (before board s.items) m).content) (found ∙ ap (main_entry (before board s.items)) number_is) ∙ vote-found.content in
           let next : contents (take (k + 1) xs) ≡ contents (take k xs) ++ (get_or xs k none).content =
           rw (add-one k, take-suc xs k none (omega (arith, stands.ballots))) (contents-snoc (take k xs) (get_or xs k none)) in
-          rw (next, ← same, ← content-slice known) (holds-fed (take (e.item.parent - e.item.content) (drop e.item.content board)) h next-hash)
+          rw (next, ← same, ← content-words known) (holds-fed (part e.item.content e.item.head.count board) h next-hash)

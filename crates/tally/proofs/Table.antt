@@ -1,13 +1,17 @@
 -- The ballot table: a voter's rows dropped one row at a time, and the weights added. Assumes nothing.
 use mathlib.Core.Path.{◌≡◌, refl, sym, ap, ◌∙◌}
 use mathlib.Core.Bool.{Bool, true, false, not}
-use mathlib.Core.List.{List, [], ◌∷◌, ◌++◌, append_assoc, append-nil}
-use Prim.Native.Nat.{ℕ, suc, ◌+◌, ◌-◌, ◌*◌, ◌≤◌, ◌<◌}
+use Rattle.std.specs.Simd.{first_chunks}
+use Rattle.std.specs.List.{sum_by}
+use Rattle.std.proofs.lemmas.List.{get_or-map}
+use Rattle.std.proofs.lemmas.List.Sums.{sum_by-cons}
+use mathlib.Core.List.{List, [], ◌∷◌, map, ◌++◌, append_assoc, append-nil}
+use Prim.Native.Nat.{ℕ, ◌+◌, ◌-◌, ◌*◌, ◌/◌, ◌≤◌, ◌<◌}
 use native.Mathlib.Nat.{add-zero}
 use native.Mathlib.Numerals.{add-one}
 use native.Mathlib.Omega.{arith}
 use lib.ListN.{length, get_or, take, drop, replicate, length-append, length-replicate, replicate-append-replicate, drop_of_length-le}
-use lib.Seq.{sets, sets-eq, length-sets, take-append_seam, drop-append-add, drop-append_seam, get_or-append-add, take_all, drop-length, drop-cons, take-suc}
+use lib.Seq.{sets, sets-eq, length-sets, take-append_seam, drop-append-add, drop-append_seam, get_or-append-add, take_all, drop-cons, take-suc}
 use lib.Dec.{eqb}
 use borrow.Author.Tests.{eq-eqb, ne_eqb}
 use Rattle.model.specs.Lists.{if◌then◌otherwise◌, keep}
@@ -16,8 +20,8 @@ use Rattle.model.specs.Audit.{ballot_row}
 use Rattle.model.specs.Report.{ballot_rows, filled}
 use Rattle.model.proofs.Tests.{by-test}
 use Rattle.model.proofs.Lists.{keep_append}
-use Rattle.model.proofs.Tables.{length-ballot_rows, ballot_rows-append, get_or-ballot_rows, get_or-filled, filled-append}
-use Rattle.tally.specs.Rows.{HoldsRows, row_word, cleared, row_kept, number_kept}
+use Rattle.model.proofs.Tables.{length-ballot_rows, ballot_rows-append, filled-append}
+use Rattle.tally.specs.Rows.{HoldsRows, row_words, row_word, cleared, row_kept, number_kept}
 
 abbrev zeros : ℕ → List ℕ
 zeros n = replicate n 0
@@ -183,25 +187,29 @@ module _ (l : List ℕ) (kept k voter : ℕ) where
   unfolding number_kept if◌then◌otherwise◌
   number-few le = by-test (eqb (row_word l k 1) voter) (λ q. rw q (omega arith)) (λ q. rw q (omega arith))
 
--- ---- the weights
+-- ---- the rows as the code reads them
 
-module _ (ballots : List ℕ) (n : ℕ) (xs : List Vote) (t : HoldsRows ballots n xs) where
-  pub row_of : (k c : ℕ) → k < n → c < ballot_row → row_word ballots k c ≡ get_or (ballot_rows (get_or xs k none ∷ [])) c 0
-  row_of k c l i =
-      ap (λ (b : List ℕ). row_word b k c) t.rows
-      ∙ get_or-filled (length ballots) (ballot_rows xs) (ballot_row * k + c)
-      ∙ get_or-ballot_rows none xs k c (omega (arith, t.number)) i
+chunks-rows : (xs : List Vote) → first_chunks ballot_row (length xs) (ballot_rows xs) ≡ map row_words xs
+unfolding ballot_rows
+chunks-rows [] = refl
+chunks-rows (x ∷ xs) = ap (row_words x ∷◌) (chunks-rows xs)
 
-  pub weight-more : (k sum : ℕ) → k < n → sum + total_weight (drop k xs) ≡ total_weight xs
-      → sum + row_word ballots k 2 + total_weight (drop (k + 1) xs) ≡ total_weight xs
-  unfolding total_weight ballot_rows
-  weight-more k sum l e =
-      let first : total_weight (drop k xs) ≡ (get_or xs k none).weight + total_weight (drop (suc k) xs) = rw (drop-cons xs k none (omega (arith, t.number))) in
-      let word = row_of k 2 l (omega arith) in
-      rw (add-one k) (omega arith)
+module _ {ballots : List ℕ} {n : ℕ} {xs : List Vote} (t : HoldsRows ballots n xs) where
+  pub rows-are : {rows : List (List ℕ)} → ballot_row * n ≤ length ballots
+      → rows ≡ first_chunks ballot_row (length (take (ballot_row * n) ballots) / ballot_row) (take (ballot_row * n) ballots) → rows ≡ map row_words xs
+  unfolding filled
+  rows-are fits e =
+      let size : length (ballot_rows xs) ≡ ballot_row * n = length-ballot_rows xs ∙ ap (ballot_row *◌) (sym t.number) in
+      let front : take (ballot_row * n) ballots ≡ ballot_rows xs = ap (take (ballot_row * n)) t.rows ∙ rw (← size) (take-append_seam (ballot_rows xs) _) in
+      let number : ballot_row * n / ballot_row ≡ length xs = omega (arith, t.number) in
+      e ∙ rw (front, size, number) (chunks-rows xs)
 
-  pub weight-all : (sum : ℕ) → sum + total_weight (drop n xs) ≡ total_weight xs → sum ≡ total_weight xs
-  unfolding total_weight
-  weight-all sum e =
-      let end : total_weight (drop n xs) ≡ 0 = rw (t.number, drop-length xs) in
-      omega arith
+-- the ballot of row k
+pub row-ballot : (xs : List Vote) (k : ℕ) (d : List ℕ) → k < length xs → get_or (get_or (map row_words xs) k d) 0 0 ≡ (get_or xs k none).ballot
+row-ballot xs k d l = ap (λ (ws : List ℕ). get_or ws 0 0) (get_or-map row_words xs k none d l)
+
+-- the weights of all
+pub weights : (xs : List Vote) → sum_by (λ row. get_or row 2 0) (map row_words xs) ≡ total_weight xs
+unfolding total_weight
+weights [] = refl
+weights (x ∷ xs) = sum_by-cons (λ row. get_or row 2 0) (row_words x) (map row_words xs) ∙ ap (x.weight +◌) (weights xs)

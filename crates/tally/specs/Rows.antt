@@ -12,6 +12,10 @@ pub record HoldsRows (ballots : List ℕ) (n : ℕ) (xs : List Vote) : Type 0 wh
   pub rows : ballots ≡ filled (length ballots) (ballot_rows xs)
   pub number : n ≡ length xs
 
+-- the row of a vote
+abbrev pub row_words : Vote → List ℕ
+row_words v = v.ballot ∷ v.voter ∷ v.weight ∷ []
+
 -- word c of row k
 abbrev pub row_word : List ℕ → ℕ → ℕ → ℕ
 row_word ballots k c = get_or ballots (ballot_row * k + c) 0

@@ -6,67 +6,67 @@ ghost use Rattle.model.specs.History.{entry, main, main_number};
 ghost use Rattle.model.specs.Counted.{Vote, counted, contents, total_weight};
 ghost use Rattle.model.specs.Audit.{ballot_row, item_limit};
 ghost use Rattle.sha256_block.specs.Fips.{sha256_words};
-ghost use Rattle.index.specs.Kept.{before, Kept};
-ghost use Rattle.index.specs.Known.{Passing};
-ghost use Rattle.state.specs.Stands.{Stands};
+ghost use Rattle.index.specs.Kept.{before};
+ghost use Rattle.index.specs.Passed.{history_of};
+ghost use Rattle.state.specs.Reached.{history_behind};
 ghost use Rattle.tally.specs.Rows.{HoldsRows};
 ghost use Rattle.tally.specs.Tallied.{Tallied};
 
 use format::head::Head;
-use format::limit::Limit;
-use index::Known;
+use index::addition::Addition;
+use index::passed::Passed;
 use sha256::Hash;
-use state::State;
+use state::progress::Progress;
 
 pub mod rows;
 
 // The main number of item k, which is a main item: one more than the main items before it.
-fn main_number(board: &[u32], index: &[u32], count: usize, k: usize) -> u32
-    requires kept { Kept board.now index.now count }
-    requires le_k { (1 ≤ k) × (k ≤ count) × (T (main (entry (before board.now count) k))) }
-    ensures { result ≡ main_number (before board.now count) k }
+fn main_number(passed: &Passed, k: usize) -> u32
+    requires { (1 ≤ k) × (k ≤ passed.now.count) × T (main (entry (history_of passed.now) k)) }
+    ensures { result ≡ main_number (history_of passed.now) k }
 {
-    (index::mains_before(board, index, count, k) + 1) as u32
+    (passed.mains_before(k) + 1) as u32
 }
 
-// The ballot table with the item after the first ones, which passes. A cast drops its voter's row and puts its own last: the main number
-// of the ballot, and the voter and the weight of the cast's session. Returns how many rows there are then.
-pub fn after(board: &[u32], index: &[u32], ballots: &mut [u32], s: State, c: Known) -> usize
-    requires { (Passing board.now index.now s.items c)
-        × (Stands board.now s)
-        × (Tallied board.now ballots.old s.items) }
-    ensures { (Tallied board.now ballots.new (s.items + 1))
-        × (result ≡ length (counted (before board.now (s.items + 1)))) }
+// The ballot table with one item more, where it has so many rows. A cast drops its voter's row and puts its own last: the main number of
+// the ballot, and the voter and the weight of the cast's session. Returns how many rows there are then.
+pub fn after(addition: &Addition, ballots: &mut [u32], rows: usize) -> usize
+    requires rows { rows ≡ length (counted (before addition.now.board.now addition.now.count)) }
+    requires tallied { Tallied addition.now.board.now ballots.old addition.now.count }
+    ensures { (Tallied addition.now.board.now ballots.new (addition.now.count + 1))
+        × (result ≡ length (counted (before addition.now.board.now (addition.now.count + 1)))) }
 {
-    if c.item.head.code != Head::CAST {
-        return s.ballots;
+    let known = addition.known;
+    if known.item.head.code != Head::CAST {
+        return rows;
     }
-    let session = index::entry(board, index, s.items, c.session);
-    let at = session.item.content;
-    let voter = board[at];
-    let weight = board[at + 1];
-    let ballot = main_number(board, index, s.items, c.parent);
-    let kept = rows::without_voter(ballots, s.ballots, voter);
-    rows::put_row(ballots, kept, ballot, voter, weight);
+    let passed = Passed {
+        board: addition.board,
+        index: addition.index,
+        count: addition.count,
+    };
+    let session = passed.entry(known.session).item;
+    let content = words::part(addition.board, session.content, session.head.count);
+    let voter = content[0];
+    let weight = content[1];
+    let ballot = main_number(&passed, known.parent);
+    let kept = rows::without_voter(ballots, rows, voter);
+    rows::put_row(ballots, kept, [ballot, voter, weight]);
     kept + 1
 }
 
 // The fingerprint of the counted ballots: SHA-256 over their whole contents in the order of the rows, each a piece of the board that is
 // fed as it stands there.
-pub fn fingerprint(board: &[u32], index: &[u32], ballots: &[u32], s: State) -> [u32; 8]
-    requires { (Kept board.now index.now s.items) × (Stands board.now s) × (Tallied board.now ballots.now s.items) }
-    ensures { result ≡ sha256_words (contents (counted (before board.now s.items))) }
+pub fn fingerprint(progress: &Progress, ballots: &[u32]) -> [u32; 8]
+    requires { Tallied progress.now.board.now ballots.now progress.now.state.items }
+    ensures { result ≡ sha256_words (contents (counted (history_behind progress.now))) }
 {
+    let passed = progress.passed();
     let mut hash = Hash::new();
-    let mut k = 0;
-    while k < s.ballots {
-        let number = words::wide(ballots[Limit::BALLOT_ROW * k]);
-        let item = lookup::main_entry(board, index, s.items, number);
-        let ballot = index::entry(board, index, s.items, item).item;
-        let from = ballot.content;
-        let to = ballot.parent;
-        hash = hash.words(&board[from..to]);
-        k += 1;
+    for row in rows::held(ballots, progress.state.ballots) {
+        let ballot = lookup::main_entry(&passed, words::wide(row[0]));
+        let item = progress.entry(ballot).item;
+        hash = hash.words(words::part(progress.board, item.content, item.head.count));
     }
     hash.finish()
 }
@@ -76,11 +76,8 @@ pub fn total_weight(ballots: &[u32], rows: usize) -> u64
     requires { (ballot_row * rows ≤ length ballots.now) × (rows ≤ item_limit) }
     ensures { (xs : List Vote) → HoldsRows ballots.now rows xs → result ≡ total_weight xs }
 {
-    let mut sum = 0;
-    let mut k = 0;
-    while k < rows {
-        sum += ballots[Limit::BALLOT_ROW * k + 2] as u64;
-        k += 1;
-    }
-    sum
+    rows::held(ballots, rows)
+        .iter()
+        .map(|row| u64::from(row[2]))
+        .sum()
 }

@@ -1,79 +1,69 @@
--- `fingerprint` meets its contract. The loop's invariant: the hash was fed the contents of the first k counted ballots. Assumes nothing.
+-- `fingerprint` meets its contract. The loop's invariant: the hash was fed the contents of the counted ballots before the row's.
+-- Assumes nothing.
 use mathlib.Core.Path.{◌≡◌, ◌∙◌}
-use Rattle.tally.proofs.Fit.{rows_few}
-use Rattle.tally.proofs.Message.{content-in, content-few, item_in, message-more, message-all}
 use Rattle.model.specs.Counted.{contents}
 use Rattle.sha256.proofs.Feed.{fed-count}
 use Rattle.sha256.proofs.Holds.{fresh-count, holds-new, digest-held}
+use Rattle.state.proofs.Had.{kept-held, stands-held}
+use Rattle.index.proofs.Reading.{known-within}
+use Rattle.tally.proofs.Fit.{holds_rows, rows_few, rows_fit}
+use Rattle.tally.proofs.Message.{content-few, item_in, message-more, message-all}
 use native.Mathlib.Omega.{arith}
-use borrow.Author.Rules.{rules}
 use Rattle.tally.proofs.fingerprint.Goals as goal
 
-pub loop-k-init : goal.loop-k-init
+pub held-row-items-requires : goal.held-row-items-requires
+held-row-items-requires c =
+    let r = c.args.progress.now.reached in
+    rows_fit (kept-held r) (stands-held r) c.requires
+
+pub loop-row-init : goal.loop-row-init
 unfolding contents
-loop-k-init c = (search rules, omega (arith, fresh-count c.new-hash.ensures), holds-new c.new-hash.ensures)
-
-pub overflow_mul-k : goal.overflow_mul-k
-overflow_mul-k c = let f = rows_few c.requires.0 c.requires.1 in omega arith
-
-pub offset_bounds-ballots-k : goal.offset_bounds-ballots-k
-offset_bounds-ballots-k c = let f = rows_few c.requires.0 c.requires.1 in omega arith
-
-pub bounds-ballots-k : goal.bounds-ballots-k
-bounds-ballots-k c =
-    let f = rows_few c.requires.0 c.requires.1 in
-    let room = c.requires.2.room in
-    omega arith
+loop-row-init c = (omega (arith, fresh-count c.new-hash.ensures), holds-new c.new-hash.ensures)
 
 pub entry-requires : goal.entry-requires
 entry-requires c =
-    let p = c.requires in
-    let k = c.loop-k.k in
-    let inside = item_in p.0 p.1 p.2 k c.loop-k-test.true c.main_entry-item.result (rw c.wide-number.ensures at c.main_entry-item.ensures) in record {
-      kept = p.0;
-      le_k = (inside.0, inside.1);
-    }
+    let r = c.args.progress.now.reached in
+    let passed = c.passed-passed.ensures in
+    let rows = c.held-row-items in
+    item_in (kept-held r) (stands-held r) c.requires c.loop-row.row-index (omega arith)
+    rows.result.now (rows.ensures.votes _ (holds_rows (stands-held r) c.requires))
+    c.main_entry-ballot.result (rw (c.wide.ensures, passed.board, passed.count) at c.main_entry-ballot.ensures)
 
-pub offset_bounds-board-from : goal.offset_bounds-board-from
-offset_bounds-board-from c = let w = content-in c.entry.ensures in omega arith
-
-pub slice_bounds-words-count : goal.slice_bounds-words-count
-slice_bounds-words-count c = (content-in c.entry.ensures).start
-
-pub slice_bounds-words-start : goal.slice_bounds-words-start
-slice_bounds-words-start c = let w = content-in c.entry.ensures in omega arith
-
-pub slice_bounds-words-end : goal.slice_bounds-words-end
-slice_bounds-words-end c = let w = content-in c.entry.ensures in omega arith
+pub part-requires : goal.part-requires
+part-requires c = (known-within c.entry.ensures).content
 
 pub words-hash-requires : goal.words-hash-requires
 words-hash-requires c =
-    let l = c.loop-k.invariant in
-    let f = rows_few c.requires.0 c.requires.1 in
-    omega (arith, content-few c.entry.ensures)
+    let r = c.args.progress.now.reached in
+    let few = rows_few (kept-held r) (stands-held r) in
+    rw c.part.ensures.value (omega (arith, content-few c.entry.ensures))
 
-pub loop-k-preserved : goal.loop-k-preserved
-loop-k-preserved c =
-    let p = c.requires in
-    let l = c.loop-k in
-    let more = c.loop-k-test.true in
+pub loop-row-preserved : goal.loop-row-preserved
+loop-row-preserved c =
+    let r = c.args.progress.now.reached in
+    let passed = c.passed-passed.ensures in
+    let rows = c.held-row-items in
+    let l = c.loop-row in
     let e = c.entry in
-    let size = content-few e.ensures in (
-      omega arith,
-      omega (arith, fed-count l.hash _ c.words-hash.ensures, l.invariant.1),
-      message-more p.0 p.1 p.2 l.k more c.main_entry-item.result (rw c.wide-number.ensures at c.main_entry-item.ensures) e.result e.ensures l.hash c.words-hash.result
-          c.words-hash.ensures l.invariant.2,
+    let size = content-few e.ensures in
+    let next = rw c.part.ensures.value at c.words-hash.ensures in (
+      omega (arith, fed-count l.hash _ next, l.invariant.0),
+      message-more (kept-held r) (stands-held r) c.requires l.row-index (omega arith)
+          rows.result.now (rows.ensures.votes _ (holds_rows (stands-held r) c.requires))
+          c.main_entry-ballot.result (rw (c.wide.ensures, passed.board, passed.count) at c.main_entry-ballot.ensures)
+          e.result e.ensures l.hash c.words-hash.result next l.invariant.1,
     )
 
 pub finish-requires : goal.finish-requires
 finish-requires c =
-    let l = c.loop-k.invariant in
-    let f = rows_few c.requires.0 c.requires.1 in
+    let r = c.args.progress.now.reached in
+    let few = rows_few (kept-held r) (stands-held r) in
+    let l = c.loop-row.invariant in
     omega arith
 
 pub returns : goal.returns
 returns c =
-    let l = c.loop-k in
-    let p = c.requires in
-    let end : l.k ≡ c.args.s.ballots = omega arith in
-    c.finish.ensures ∙ digest-held l.invariant.2 ∙ rw (message-all p.0 p.1 p.2 l.k end)
+    let r = c.args.progress.now.reached in
+    let l = c.loop-row in
+    let end : l.row-index ≡ c.args.progress.now.state.ballots = omega arith in
+    c.finish.ensures ∙ digest-held l.invariant.1 ∙ rw (message-all (kept-held r) (stands-held r) c.requires l.row-index end)

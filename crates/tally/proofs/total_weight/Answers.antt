@@ -1,22 +1,23 @@
--- `total_weight` meets its contract. The loop's invariant: the sum and the weights of the rows that are left make the total. Assumes nothing.
-use mathlib.Core.Path.{◌≡◌}
-use Prim.Native.Nat.{◌+◌, ◌*◌}
-use Rattle.tally.proofs.Table.{weight-more, weight-all}
+-- `total_weight` meets its contract. Assumes nothing.
+use Prim.Native.Nat.{◌≤◌, ◌^◌}
+use lib.ListN.{length, get_or}
 use native.Mathlib.Omega.{arith}
+use mathlib.Core.Path.{◌∙◌}
+use Rattle.std.proofs.Common.{rules, tests}
+use Rattle.std.proofs.lemmas.Iterator.{YieldsList-from_slice, YieldsList-from_map}
+use Rattle.std.proofs.lemmas.Iterator.Adapters.{fits_from_length, at_most_from_yields_List}
+use Rattle.std.proofs.lemmas.Iterator.Consumers.{sum_by_from_yields_List}
+use Rattle.model.specs.Audit.{item_limit}
+use Rattle.tally.proofs.Table.{weights}
 use Rattle.tally.proofs.total_weight.Goals as goal
 
-pub loop-k-preserved : goal.loop-k-preserved
-loop-k-preserved c =
-    let l = c.loop-k in
-    let a = c.args in (
-      omega arith,
-      omega (arith, c.type_inv.ballots (3 * c.loop-k.k + 2)),
-      λ xs t. weight-more a.ballots.now a.rows xs t l.k l.sum (omega arith) (l.invariant.2 xs t),
-    )
+pub sum-requires-clause-fits : goal.sum-requires-clause-fits
+sum-requires-clause-fits c =
+    let few : length c.held.result.now ≤ item_limit = omega arith in
+    fits_from_length _ _ item_limit (2 ^ 64) (at_most_from_yields_List (YieldsList-from_slice c.held.result.now cc) few) c.map.ensures.closure (omega arith) (λ x r q k. search rules)
 
 pub returns : goal.returns
 returns c xs t =
-    let l = c.loop-k in
-    let a = c.args in
-    let end : l.k ≡ a.rows = omega arith in
-    weight-all a.ballots.now a.rows xs t l.sum (rw end at (l.invariant.2 xs t))
+    sum_by_from_yields_List (λ row. get_or row 2 0) c.held.result.now _ _ c.sum.ensures.ran
+    (YieldsList-from_map _ (λ row. get_or row 2 0) (YieldsList-from_slice c.held.result.now cc) c.map.ensures.closure (λ x r q k. search (rules, tests)))
+    ∙ rw (c.held.ensures.votes xs t) (weights xs)

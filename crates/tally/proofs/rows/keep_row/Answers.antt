@@ -3,10 +3,10 @@ use mathlib.Core.Path.{◌∙◌}
 use Rattle.tally.proofs.Table.{keeps, keeps-not}
 use Rattle.tally.proofs.rows.keep_row.Goals as goal
 
-pub returns-then-other-voter : goal.returns-then-other-voter
-returns-then-other-voter c =
+pub returns-then-row-voter : goal.returns-then-row-voter
+returns-then-row-voter c =
     let a = c.args in
-    let q = keeps-not a.ballots.now a.kept a.k a.voter c.if-other-voter.true in record {
+    let q = keeps-not a.ballots.now a.kept a.k a.voter c.if-row-voter.true in record {
       ballots = c.put_row.ensures ∙ q.0;
       number = q.1;
     }
@@ -14,7 +14,7 @@ returns-then-other-voter c =
 pub returns : goal.returns
 returns c =
     let a = c.args in
-    let q = keeps a.ballots.now a.kept a.k a.voter c.if-other-voter.false in record {
+    let q = keeps a.ballots.now a.kept a.k a.voter c.if-row-voter.false in record {
       ballots = c.put_row-2.ensures ∙ rw c.put_row.ensures q.0;
       number = q.1;
     }
