@@ -1,43 +1,76 @@
 -- A number read digit by digit, and words read one after the other.
 use mathlib.Core.Path.{◌≡◌, refl, sym, ap, ◌∙◌}
 use Prim.Native.Nat.{ℕ, zero, suc, ◌+◌, ◌-◌, ◌*◌, ◌^◌, ◌≤◌, ◌<◌}
-use mathlib.Core.Bool.{Bool, true, false, and-eq-true_iff}
+use mathlib.Core.Bool.{Bool, true, false, and-eq-true_iff, and-false}
 use mathlib.Core.List.{List, [], ◌∷◌, ◌++◌}
 use native.Mathlib.Nat.{pow-suc, pow-le-pow_right}
 use native.Mathlib.Numerals.{add-one}
 use native.Mathlib.Omega.{arith}
-use borrow.Author.Tests.{ltb-true, lt-ltb, le-ltb}
+use borrow.Author.Tests.{ltb-true}
 use lib.Dec.{ltb}
 use lib.ListN.{length, get_or, take, drop, set, replicate, length-append, length-drop}
 use lib.Seq.{drop-cons, drop-length, append_snoc, set_at, length-take-le}
-use Rattle.vectors.specs.Hexadecimal.{digit, all_digits, number, number_from, words_of}
+use Rattle.std.proofs.Common.{Some, None, is_some, cond}
+use Rattle.vectors.specs.Hexadecimal.{digit, digit_value, all_digits, number, number_from, words_of}
+
+by_test : {X : Type 0} (b : Bool) → (b ≡ true → X) → (b ≡ false → X) → X
+by_test true f g = f refl
+by_test false f g = g refl
 
 -- ---- digits alone
 
-module _ (l : List ℕ) (i : ℕ) {d : ℕ} (p : i < length l) (e : d ≡ digit (get_or l i 0)) where
-  pub digits-next : {r : Bool} → d < 16 → r ≡ all_digits (drop i l) → r ≡ all_digits (drop (i + 1) l)
-  unfolding all_digits
-  digits-next q w = w ∙ rw (add-one, drop-cons l i 0, ← e, lt-ltb d 16)
+some-digit : (c : ℕ) → is_some (digit_value c) ≡ ltb (digit c) 16
+unfolding digit_value
+some-digit c = elim (ltb (digit c) 16) as (λ (b : Bool). is_some (cond b (Some (digit c)) None) ≡ b) [ true ↦ refl | false ↦ refl ]
 
-  pub digits-none : {r : Bool} → 16 ≤ d → r ≡ all_digits (drop i l) → false ≡ r
-  unfolding all_digits
-  digits-none q w = sym (w ∙ rw (drop-cons l i 0, ← e, le-ltb d 16))
-
-  -- where all from i on are digits, the one at i is, and those behind it are
-  pub digits-here : all_digits (drop i l) ≡ true → (d < 16) × (all_digits (drop (i + 1) l) ≡ true)
-  unfolding all_digits
-  digits-here w =
-      let b = (and-eq-true_iff (ltb (digit (get_or l i 0)) 16) _).0 (ap all_digits (sym (drop-cons l i 0 p)) ∙ w) in
-      (rw e (ltb-true (digit (get_or l i 0)) 16 b.0), rw add-one b.1)
-
-  -- a digit more of a number
-  pub number-next : (n : ℕ) {r : ℕ} → r ≡ number_from n (drop i l) → r ≡ number_from (n * 16 + d) (drop (i + 1) l)
-  unfolding number_from
-  number-next n w = w ∙ rw (add-one, drop-cons l i 0, e)
-
-pub digits-all : (l : List ℕ) (i : ℕ) {r : Bool} → i ≡ length l → r ≡ all_digits (drop i l) → true ≡ r
+-- a text of which each byte is a digit, and one that has another
+every-digit : (text : List ℕ) → ((k : ℕ) → k < length text → is_some (digit_value (get_or text k 0)) ≡ true) → all_digits text ≡ true
 unfolding all_digits
-digits-all l i p w = sym (w ∙ rw (p, drop-length))
+every-digit [] each = refl
+every-digit (c ∷ cs) each =
+    (and-eq-true_iff (ltb (digit c) 16) (all_digits cs)).1
+    (sym (some-digit c) ∙ each 0 (omega arith), every-digit cs (λ k l. each (suc k) (omega arith)))
+
+no-digit : (text : List ℕ) (k : ℕ) → k < length text → is_some (digit_value (get_or text k 0)) ≡ false → all_digits text ≡ false
+unfolding all_digits
+no-digit [] k l e = absurd (omega arith)
+no-digit (c ∷ cs) zero l e = rw (sym (some-digit c) ∙ e) refl
+no-digit (c ∷ cs) (suc k) l e = rw (no-digit cs k (omega arith) e) (and-false (ltb (digit c) 16))
+
+pub digits-told : (text : List ℕ) (r : Bool)
+    → (r ≡ true → (k : ℕ) → k < length text → is_some (digit_value (get_or text k 0)) ≡ true)
+    → (r ≡ false → (k : ℕ) × (k < length text) × (is_some (digit_value (get_or text k 0)) ≡ false))
+    → r ≡ all_digits text
+digits-told text true each other = sym (every-digit text (each refl))
+digits-told text false each other = let (k, l, e) = other refl in sym (no-digit text k l e)
+
+value_is : (c : ℕ) {d : ℕ} → digit_value c ≡ Some d → (d ≡ digit c) × (d < 16)
+unfolding digit_value
+value_is c {d} e =
+    by_test (ltb (digit c) 16)
+    (λ t. let s : Some (digit c) ≡ Some d = rw t at e in let same : digit c ≡ d = cc s in (sym same, omega (arith, same, ltb-true (digit c) 16 t)))
+    (λ t. let n : None ≡ Some d = rw t at e in absurd (cc n))
+
+-- where all from i on are digits, the one at i is, and those behind it are
+module _ (l : List ℕ) (i : ℕ) (p : i < length l) where
+  front : all_digits (drop i l) ≡ true → (ltb (digit (get_or l i 0)) 16 ≡ true) × (all_digits (drop (suc i) l) ≡ true)
+  unfolding all_digits
+  front w = (and-eq-true_iff (ltb (digit (get_or l i 0)) 16) (all_digits (drop (suc i) l))).0 (ap all_digits (sym (drop-cons l i 0 p)) ∙ w)
+
+  pub some-here : all_digits (drop i l) ≡ true → is_some (digit_value (get_or l i 0)) ≡ true
+  some-here w = some-digit (get_or l i 0) ∙ (front w).0
+
+  pub digits-behind : all_digits (drop i l) ≡ true → all_digits (drop (i + 1) l) ≡ true
+  digits-behind w = rw add-one (front w).1
+
+  module _ {d : ℕ} (e : digit_value (get_or l i 0) ≡ Some d) where
+    pub digit-few : d < 16
+    digit-few = (value_is (get_or l i 0) e).1
+
+    -- a digit more of a number
+    pub number-next : (n : ℕ) {r : ℕ} → r ≡ number_from n (drop i l) → r ≡ number_from (n * 16 + d) (drop (i + 1) l)
+    unfolding number_from
+    number-next n w = w ∙ rw (add-one, drop-cons l i 0, (value_is (get_or l i 0) e).0)
 
 pub number-all : (l : List ℕ) (n i : ℕ) {r : ℕ} → i ≡ length l → r ≡ number_from n (drop i l) → n ≡ r
 unfolding number_from

@@ -1,5 +1,5 @@
 -- Numbers in hexadecimal, as text.
-use Rattle.std.specs.Prelude.{ℕ, zero, suc, ◌+◌, ◌*◌, Bool, true, ◌&&◌, List, [], ◌∷◌, ◌++◌, ltb, take, drop}
+use Rattle.std.specs.Prelude.{ℕ, zero, suc, ◌+◌, ◌*◌, Bool, true, ◌&&◌, cond, Option, Some, None, List, [], ◌∷◌, ◌++◌, ltb, take, drop}
 use Rattle.vectors.specs.Scan.{index_of}
 
 -- the digits, 0 to 9 and a to f
@@ -10,6 +10,10 @@ digits =
 -- the value of a digit, 16 of another byte
 unfoldable pub digit : ℕ → ℕ
 digit c = index_of c digits
+
+-- the same, None of another byte
+unfoldable pub digit_value : ℕ → Option ℕ
+digit_value c = cond (ltb (digit c) 16) (Some (digit c)) None
 
 -- whether a text is of digits alone
 unfoldable pub all_digits : List ℕ → Bool

@@ -3,3 +3,4 @@ pub mod Messages
 pub mod Feeding
 pub mod Hexadecimal
 pub mod Input
+pub mod Reading

@@ -2,22 +2,33 @@
 // 11.0, SHA256, SHA384 and SHA512, ShortMsg and LongMsg) that are of whole words: all of the short ones, two of the long. A line of three
 // digits gives the bits of the digests behind it; any other is a message in hexadecimal. Where a line is neither, or a message has bits
 // that no hash has, the program says so and reads no further; it says so, too, where the input fills the buffer.
-ghost use Rattle.std.specs.Prelude.{true, ◌++◌, ◌≡◌, ◌-◌, ◌/◌, ◌^◌, ◌<◌, ◌≤◌, length, replicate};
-ghost use Rattle.vectors.specs.Hexadecimal.{digit, all_digits, number, words_of};
-ghost use Rattle.vectors.specs.Input.{bits_of, is_hash, is_message, next, is_input};
+ghost use Rattle.std.specs.Prelude.{true, ℕ, ◌-◌, ◌++◌, ◌≡◌, ◌/◌, ◌^◌, ◌<◌, ◌≤◌, Option, length, replicate, is_ok};
+ghost use Rattle.vectors.specs.Hexadecimal.{digit_value, all_digits, number, words_of};
+ghost use Rattle.vectors.specs.Input.{bits_of, is_message, next, is_input};
+ghost use Rattle.vectors.specs.Reading.{hash_of, told};
 
-use crate::{hash256, hash512, scan};
+use crate::running::{Sha256, Sha384, Sha512};
+use crate::{running, scan};
 use std::io;
 
-// What stands for bits that can't be read: a number of more than three digits.
-const NONE: usize = 0x1000;
+// The hashes whose messages are read.
+#[derive(Clone, Copy)]
+enum Hash {
+    Sha256,
+    Sha384,
+    Sha512,
+}
+
+// A line, or a text, that can't be read.
+#[derive(Clone, Copy)]
+struct Unreadable;
 
 // The most words of a message.
 const ROOM: usize = 256;
 
-// The value of a digit in lower case, 16 of another byte.
-fn digit(c: u8) -> usize
-    ensures { (result ≡ digit c) × (result ≤ 16) }
+// The value of a digit in lower case: None of another byte.
+fn digit(c: u8) -> Option<usize>
+    ensures { result ≡ digit_value c }
 {
     scan::find(b"0123456789abcdef", c)
 }
@@ -25,26 +36,17 @@ fn digit(c: u8) -> usize
 fn all_digits(text: &[u8]) -> bool
     ensures { result ≡ all_digits text.now }
 {
-    let mut i: usize = 0;
-    while i < text.len() {
-        if digit(text[i]) >= 16 {
-            return false;
-        }
-        i += 1;
-    }
-    true
+    text.iter().all(|c| digit(*c).is_some())
 }
 
 // The number that at most eight digits make.
-fn number(text: &[u8]) -> usize
+fn number(text: &[u8]) -> u32
     requires { (length text.now ≤ 8) × (all_digits text.now ≡ true) }
     ensures { (result ≡ number text.now) × (result < 16 ^ length text.now) }
 {
-    let mut value: usize = 0;
-    let mut i: usize = 0;
-    while i < text.len() {
-        value = value * 16 + digit(text[i]);
-        i += 1;
+    let mut value = 0;
+    for c in text {
+        value = value * 16 + digit(*c).unwrap() as u32;
     }
     value
 }
@@ -53,13 +55,7 @@ fn number(text: &[u8]) -> usize
 fn is_message(line: &[u8]) -> bool
     ensures { result ≡ is_message line.now }
 {
-    if line.len() % 8 != 0 {
-        return false;
-    }
-    if line.len() / 8 > ROOM {
-        return false;
-    }
-    all_digits(line)
+    line.len() % 8 == 0 && line.len() / 8 <= ROOM && all_digits(line)
 }
 
 // The words of a message, eight digits to a word, and then zeros.
@@ -68,96 +64,91 @@ fn read_words(text: &[u8]) -> [u32; ROOM]
     ensures { result ≡ (let n = length text.now / 8 in words_of text.now n ++ replicate (256 - n) 0) }
 {
     let mut words = [0u32; ROOM];
-    let n = text.len() / 8;
-    let mut i: usize = 0;
-    while i < n {
-        let at = i * 8;
-        let end = at + 8;
-        words[i] = number(&text[at..end]) as u32;
-        i += 1;
+    for i in 0..text.len() / 8 {
+        words[i] = number(&text[i * 8..i * 8 + 8]);
     }
     words
 }
 
-// A line for the words: false where no hash has digests of the bits. What is printed no contract says: it is compared with the file stdout.
-// Nor does a line that can't be written change the answer.
-fn show_words<R: Print>(rt: &R, bits: usize, words: &[u32]) -> bool
-    requires { length words.now ≤ 256 }
-    ensures { result ≡ is_hash bits }
-{
-    if bits == 0x256 {
-        let _ = hash256::show(rt, b"input-", words);
-        return true;
-    }
-    if bits == 0x384 {
-        let _ = hash512::show384(rt, b"input-", words);
-        return true;
-    }
-    if bits == 0x512 {
-        let _ = hash512::show512(rt, b"input-", words);
-        return true;
-    }
-    false
-}
-
-// The same for the words of a message.
-fn show_message<R: Print>(rt: &R, bits: usize, text: &[u8]) -> bool
+// A line for the words of a message. What is printed no contract says: it is compared with the file stdout. Nor does a line that can't be
+// written change what is read.
+fn show_message<R: Print>(rt: &R, hash: Hash, text: &[u8])
     requires { is_message text.now ≡ true }
-    ensures { result ≡ is_hash bits }
 {
-    let words = read_words(text);
-    show_words(rt, bits, &words[..text.len() / 8])
+    let room = read_words(text);
+    let words = &room[..text.len() / 8];
+    let _ = match hash {
+        Hash::Sha256 => running::show::<8, Sha256, R>(rt, b"input-", words),
+        Hash::Sha384 => running::show::<12, Sha384, R>(rt, b"input-", words),
+        Hash::Sha512 => running::show::<16, Sha512, R>(rt, b"input-", words),
+    };
 }
 
-// The bits that three digits give, as the number that they make in hexadecimal: NONE where a byte is no digit.
-fn read_bits(text: &[u8]) -> usize
+// The hash that has digests of the bits, read in hexadecimal, if one has.
+#[tactic(auto, unfolding(crate::specs::Reading::hash_of))]
+fn hash_of(bits: u32) -> Option<Hash>
+    ensures { result ≡ hash_of bits }
+{
+    match bits {
+        0x256 => Some(Hash::Sha256),
+        0x384 => Some(Hash::Sha384),
+        0x512 => Some(Hash::Sha512),
+        _ => None,
+    }
+}
+
+// The hash of the bits that three digits give.
+fn read_bits(text: &[u8]) -> Result<Option<Hash>, Unreadable>
     requires { length text.now ≡ 3 }
-    ensures { result ≡ bits_of text.now }
+    ensures { result ≡ told (bits_of text.now) }
 {
     if !all_digits(text) {
-        return NONE;
+        return Err(Unreadable);
     }
-    number(text)
+    Ok(hash_of(number(text)))
 }
 
-// The bits behind a line, where those before it are as given, NONE where it can't be read. A message is shown.
-fn next<R: Print>(rt: &R, bits: usize, line: &[u8]) -> usize
-    ensures { result ≡ next bits line.now }
+// The hash of the messages behind a line, where that of those before it is as given. A message is shown.
+fn next<R: Print>(rt: &R, hash: Option<Hash>, line: &[u8]) -> Result<Option<Hash>, Unreadable>
+    ensures { (bits : ℕ) → hash ≡ hash_of bits → result ≡ told (next bits line.now) }
 {
     if line.len() == 3 {
         return read_bits(line);
     }
     if !is_message(line) {
-        return NONE;
+        return Err(Unreadable);
     }
-    if show_message(rt, bits, line) {
-        bits
-    } else {
-        NONE
-    }
+    let Some(known) = hash else {
+        return Err(Unreadable);
+    };
+    show_message(rt, known, line);
+    Ok(hash)
 }
 
-// The lines of a text, up to the first that can't be read: false where there is one, or where the text fills the buffer it was read to.
-fn show_lines<R: Print>(rt: &R, text: &[u8]) -> bool
-    ensures { result ≡ is_input text.now }
+// The lines of a text, up to the first that can't be read: an error where there is one, or where the text fills the buffer it was read to.
+fn show_lines<R: Print>(rt: &R, text: &[u8]) -> Result<(), Unreadable>
+    ensures { is_ok result ≡ is_input text.now }
 {
-    let mut bits: usize = 0;
-    let mut from: usize = 0;
+    let mut hash = None;
+    let mut from = 0;
+    // Kept: for a `for` over `split_inclusive` in a function with a type parameter the check makes a module that it then refuses.
     while from < text.len() {
-        let end = from + scan::find(&text[from..], b'\n');
-        bits = next(rt, bits, &text[from..end]);
-        if bits == NONE {
-            return false;
-        }
+        let left = &text[from..];
+        let end = from + scan::find(left, b'\n').unwrap_or(left.len());
+        hash = next(rt, hash, &text[from..end])?;
         from = end + 1;
     }
-    text.len() < 65536
+    if text.len() < 65536 {
+        Ok(())
+    } else {
+        Err(Unreadable)
+    }
 }
 
 pub fn show<R: Input + Print>(rt: &R) -> io::Result<()> {
     let mut buf = [0u8; 65536];
     let n = files::fill(&mut rt.reader(), &mut buf);
-    if !show_lines(rt, &buf[..n]) {
+    if show_lines(rt, &buf[..n]).is_err() {
         println!(rt; "standard input can't be read")?;
     }
     Ok(())

@@ -4,11 +4,8 @@ ghost use Rattle.std.specs.Prelude.{◌≤◌, length};
 use std::io;
 
 fn print_words<R: Print>(rt: &R, words: &[u32]) -> io::Result<()> {
-    let mut i: usize = 0;
-    while i < words.len() {
-        let word = words[i];
+    for word in words {
         print!(rt; "{word:08x}")?;
-        i += 1;
     }
     Ok(())
 }

@@ -1,16 +1,10 @@
 // A byte looked for in a text.
-ghost use Rattle.std.specs.Prelude.{◌≡◌, ◌≤◌, length};
-ghost use Rattle.vectors.specs.Scan.{index_of};
+ghost use Rattle.std.specs.Prelude.{◌≡◌, eqb};
+ghost use Rattle.std.specs.List.{position};
 
-// The first place of the byte, or the text's length where it is not there.
-pub fn find(text: &[u8], c: u8) -> usize
-    ensures within { result ≤ length text.now }
-    ensures first { result ≡ index_of c text.now }
+// The first place of the byte, None where it is not there.
+pub fn find(text: &[u8], c: u8) -> Option<usize>
+    ensures { result ≡ position (λ d. eqb d c) text.now }
 {
-    for (i, d) in text.iter().enumerate() {
-        if *d == c {
-            return i;
-        }
-    }
-    text.len()
+    text.iter().position(|d| *d == c)
 }

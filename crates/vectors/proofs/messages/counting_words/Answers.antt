@@ -1,15 +1,8 @@
-use Rattle.std.proofs.Common.{refl, ◌<◌, add-one, arith, length, length-set}
-use Rattle.std.proofs.Math.Seq.{take-suc-set}
-use Rattle.vectors.specs.Messages.{counting}
+use Rattle.std.proofs.Common.{rules, arith}
+use Rattle.vectors.proofs.Counting.{counted}
 use Rattle.vectors.proofs.messages.counting_words.Goals as goal
 
-pub loop-i-init : goal.loop-i-init
-unfolding counting
-loop-i-init c = (omega arith, refl, refl)
-
-pub loop-i-preserved : goal.loop-i-preserved
-unfolding counting
-loop-i-preserved c =
-    let l = c.loop-i in
-    let p : l.i < length l.m = omega arith in
-    (omega arith, simp length-set l.invariant.1, rw (add-one, take-suc-set l.m l.i, l.invariant.2))
+pub returns : goal.returns
+returns c =
+    let r = c.from_fn.ensures.items in
+    counted c.from_fn.result (λ i l. let (p, q, called) = r.at i 0 (omega (arith, r.long)) in search (rules, called, called.met)) 65 r.long
