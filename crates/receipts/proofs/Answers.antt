@@ -1,6 +1,6 @@
 -- The answers buffer: before any item, and with one item more. Assumes nothing.
 use Prim.Native.Nat.{ℕ, suc, ◌+◌, ◌-◌, ◌≤◌, ◌<◌}
-use native.Mathlib.Nat.{sub-zero, le_refl}
+use native.Mathlib.Nat.{le_refl}
 use native.Mathlib.Numerals.{add-one}
 use native.Mathlib.Decide.{dec_le}
 use native.Mathlib.Omega.{arith}
@@ -8,7 +8,8 @@ use mathlib.Core.Path.{◌≡◌, sym, ap, ap₂, ◌∙◌}
 use mathlib.Core.Logic.{◌≢◌, by_cases}
 use mathlib.Core.Bool.{false, ◌&&◌, and-false}
 use mathlib.Core.List.{List, [], ◌∷◌, ◌++◌}
-use lib.ListN.{length, get_or, set, replicate, length-replicate, get_or-replicate, replicate-append-replicate, get_or-eq_default}
+use lib.ListN.{length, get_or, drop, replicate, length-replicate, get_or-replicate, get_or-eq_default}
+use Rattle.std.proofs.lemmas.List.{drop-replicate}
 use lib.Seq.{ext_get_or, take_all}
 use lib.Dec.{T, eqb}
 use borrow.Author.Tests.{eq-eqb, ne_eqb}
@@ -24,7 +25,7 @@ use Rattle.model.proofs.Lists.{count-few, length-tabulate, get_or-tabulate}
 use Rattle.model.proofs.Numbers.{entry-snoc, main-number-append, main-next, OnlyMain}
 use Rattle.model.proofs.Entries.{orderly, typed-main, typed-only}
 use Rattle.model.proofs.Unchecked.{length-history, history-take}
-use Rattle.model.proofs.Tables.{number-none, get_or-filled, length-filled, filled-append}
+use Rattle.model.proofs.Tables.{number-none, get_or-filled, length-filled}
 use Rattle.model.proofs.Receipts.{answer-next}
 use Rattle.format.specs.Format.{format_of}
 use Rattle.index.specs.declared.Known.{Known}
@@ -39,21 +40,11 @@ use Rattle.receipts.proofs.Casts.{new_answer, new-past, new-inside}
 
 -- ---- before any item
 
--- a cleared buffer
-pub none-begins : (n : ℕ) {ws : List ℕ} → ws ≡ replicate n 0 → ws ≡ filled (length ws) (replicate 0 no_number)
+-- a cleared buffer of n words, the first total of which are none then
+pub none-first : {n total : ℕ} {first cleared : List ℕ} → total ≤ n → first ≡ replicate total no_number → cleared ≡ replicate n 0
+    → first ++ drop total cleared ≡ filled n (replicate total no_number)
 unfolding filled
-none-begins n e = rw (e, length-replicate {A = ℕ} n 0, sub-zero)
-
--- one in which the first i words are none
-module _ (n i : ℕ) {ws : List ℕ} (e : ws ≡ filled n (replicate i no_number)) where
-  pub none-size : i ≤ n → length ws ≡ n
-  none-size l = rw e (length-filled n (replicate i no_number) (omega (arith, length-replicate {A = ℕ} i no_number)))
-
-  pub none-next : i < n → set ws i no_number ≡ filled n (replicate (i + 1) no_number)
-  none-next l =
-      let rows = replicate i no_number in
-      let size = length-replicate {A = ℕ} i no_number in
-      rw (e, ← replicate-append-replicate {A = ℕ} i 1 no_number, filled-append n rows (no_number ∷ []) (omega arith), size)
+none-first {n} {total} l e f = rw (e, f, drop-replicate {X = ℕ} total n 0, length-replicate {A = ℕ} total no_number)
 
 -- that is what a search gives in no items
 no_answer : (r : Receipt) → no_number ≡ receipt_answer r []
@@ -198,11 +189,6 @@ module _ {board index : List ℕ} {items done : ℕ} (kept : Kept board index it
           ∙ far-past k l))
 
 -- ---- with all
-
--- a buffer of as many words
-pub resized : (board receipts : List ℕ) (n : ℕ) {size size' : ℕ} → size ≡ size' → {ws : List ℕ} → ws ≡ answers_up_to board receipts n size
-    → ws ≡ answers_up_to board receipts n size'
-resized board receipts n q e = e ∙ ap (answers_up_to board receipts n) q
 
 pub answers-end : (board receipts : List ℕ) {n items : ℕ} → n ≡ items → (s : List ℕ) {size : ℕ} → size ≡ length s → {ws : List ℕ}
     → ws ≡ answers_up_to board receipts n size → ws ≡ answers_after (format_of board) receipts (accepted (before board items)) s

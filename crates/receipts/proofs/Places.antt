@@ -12,6 +12,7 @@ use Rattle.model.specs.Lists.{part}
 use Rattle.model.specs.Words.{same_words}
 use Rattle.model.specs.Item as model
 use Rattle.model.specs.History.{Entry}
+use Rattle.model.specs.Audit.{item_limit}
 use Rattle.model.specs.Receipts.{receipt_limit, receipt_size, receipt_count, receipt_at, matches}
 use Rattle.format.specs.declared.item.Item.{Item}
 use Rattle.format.specs.Format.{format_of}
@@ -26,6 +27,10 @@ use Rattle.receipts.specs.Answering.{Whole}
 -- a receipt has words
 pub size-some : (board : List ℕ) {n : ℕ} → n ≡ receipt_size (format_of board) → 1 ≤ n
 size-some board e = let b = sizes board in omega arith
+
+-- a chain table has room for all of them
+pub few-enough : {board receipts : List ℕ} → Whole board receipts → receipt_count (format_of board) receipts ≤ item_limit
+few-enough w = omega (arith, w.few)
 
 -- ---- where receipt k stands
 

@@ -8,8 +8,8 @@ ghost use Rattle.model.specs.Audit.{accepted};
 ghost use Rattle.model.specs.Report.{no_number, filled};
 ghost use Rattle.model.specs.Receipts.{receipt_size, receipt_count, receipt_at, matches, is_bad_receipts, answers_after};
 ghost use Rattle.format.specs.Format.{format_of};
-ghost use Rattle.index.specs.Kept.{before, Kept};
 ghost use Rattle.index.specs.Known.{IsKnown};
+ghost use Rattle.index.specs.Passed.{history_of};
 ghost use Rattle.chains.specs.Chain.{chain_words};
 ghost use Rattle.lookup.specs.Search.{entry_from};
 ghost use Rattle.receipts.specs.Answering.{Whole, Answerable, receipt_chain, answers_up_to, with_cast};
@@ -18,6 +18,7 @@ use chains::Chain;
 use format::format::Format;
 use format::head::Head;
 use index::Known;
+use index::passed::Passed;
 use lookup::bucket;
 
 pub struct Receipt {}
@@ -52,18 +53,31 @@ pub fn is_bad(board: &[u32], receipts: &[u32]) -> bool
     words::is_bad_run(receipts, size(board), Receipt::LIMIT)
 }
 
+// Receipts that are asked of the items that passed: whole receipts of the board's widths, not too many.
+#[derive(Clone, Copy)]
+struct Asked<'a> {
+    passed: Passed<'a>,
+    receipts: &'a [u32],
+    ghost whole: { Whole passed.board.now receipts.now },
+}
+
+// With the chain table that finds the receipts of an address.
+#[derive(Clone, Copy)]
+struct Linked<'a> {
+    asked: Asked<'a>,
+    chain: &'a [u32],
+    ghost chained: { chain.now ≡ receipt_chain asked.passed.board.now asked.receipts.now },
+}
+
 // Puts every receipt into the bucket of its address.
-fn link(board: &[u32], receipts: &[u32], chain: &mut [u32])
-    requires { (Whole board.now receipts.now) × (chain.old ≡ replicate chain_words 0) }
-    ensures { chain.new ≡ receipt_chain board.now receipts.now }
+fn link(asked: &Asked, chain: &mut [u32])
+    requires { chain.old ≡ replicate chain_words 0 }
+    ensures { chain.new ≡ receipt_chain asked.now.passed.board.now asked.now.receipts.now }
 {
-    let f = Format::of(board);
-    let total = count(board, receipts);
-    let mut k = 0;
-    while k < total {
+    let f = Format::of(asked.passed.board);
+    for k in 0..count(asked.passed.board, asked.receipts) {
         let at = (f.signature + f.address) * k + f.signature;
-        k += 1;
-        chains::put(chain, bucket::of_address(receipts[at]), k);
+        chains::put(chain, bucket::of_address(asked.receipts[at]), k + 1);
     }
 }
 
@@ -73,103 +87,83 @@ fn start(answers: &mut [u32], total: usize)
     ensures { answers.new ≡ filled (length answers.old) (replicate total no_number) }
 {
     words::clear(answers);
-    let mut i = 0;
-    while i < total {
-        answers[i] = Receipt::NONE;
-        i += 1;
-    }
+    answers[..total].fill(Receipt::NONE);
 }
 
 // Whether an item has the address and the signature of receipt k, from 0 on.
-fn is_receipt(board: &[u32], e: Known, receipts: &[u32], k: usize) -> bool
-    requires known { (IsKnown board.now (entry_from board.now e) e) × (Whole board.now receipts.now) }
-    requires k_bound { k < receipt_count (format_of board.now) receipts.now }
-    ensures { result ≡ matches (receipt_at (format_of board.now) receipts.now k)
-        (entry_from board.now e).item }
+fn is_receipt(asked: &Asked, e: Known, k: usize) -> bool
+    requires known { IsKnown asked.now.passed.board.now (entry_from asked.now.passed.board.now e) e }
+    requires k_bound { k < receipt_count (format_of asked.now.passed.board.now) asked.now.receipts.now }
+    ensures { result ≡ matches (receipt_at (format_of asked.now.passed.board.now) asked.now.receipts.now k)
+        (entry_from asked.now.passed.board.now e).item }
 {
+    let board = asked.passed.board;
     let address = e.item.end - e.item.address;
     let signature = e.item.address - e.item.signature;
     let at = (signature + address) * k;
-    let given = words::part(receipts, at + signature, address);
+    let given = words::part(asked.receipts, at + signature, address);
     if !words::same_words(words::part(board, e.item.address, address), given) {
         return false;
     }
-    let given = words::part(receipts, at, signature);
+    let given = words::part(asked.receipts, at, signature);
     words::same_words(words::part(board, e.item.signature, signature), given)
 }
 
 // Gives a cast's main number to each of its receipts that has no answer yet. They are in the bucket of its address.
-fn answer_cast(
-    board: &[u32],
-    e: Known,
-    number: u32,
-    receipts: &[u32],
-    chain: &[u32],
-    answers: &mut [u32],
-)
-    requires known { (IsKnown board.now (entry_from board.now e) e) × (e.item.head.code ≡ cast_type) }
-    requires answerable { (Answerable board.now receipts.now answers.old) × (chain.now ≡ receipt_chain board.now receipts.now) }
+fn answer_cast(linked: &Linked, e: Known, number: u32, answers: &mut [u32])
+    requires known { (IsKnown linked.now.asked.passed.board.now (entry_from linked.now.asked.passed.board.now e) e) × (e.item.head.code ≡ cast_type) }
+    requires room { receipt_count (format_of linked.now.asked.passed.board.now) linked.now.asked.receipts.now ≤ length answers.old }
     ensures { answers.new
-        ≡ with_cast board.now receipts.now (entry_from board.now e) number answers.old }
+        ≡ with_cast linked.now.asked.passed.board.now linked.now.asked.receipts.now (entry_from linked.now.asked.passed.board.now e) number answers.old }
 {
-    let at = e.item.address;
-    let mut k = chains::last(chain, bucket::of_address(board[at]));
+    let board = linked.asked.passed.board;
+    let mut k = chains::last(linked.chain, bucket::of_address(board[e.item.address]));
     while k != 0 {
-        if answers[k - 1] == Receipt::NONE {
-            if is_receipt(board, e, receipts, k - 1) {
-                answers[k - 1] = number;
-            }
+        if answers[k - 1] == Receipt::NONE && is_receipt(&linked.asked, e, k - 1) {
+            answers[k - 1] = number;
         }
-        k = chains::behind(chain, k);
+        k = chains::behind(linked.chain, k);
     }
 }
 
 // The item after the first done: the answers so far, those of a search for each receipt alone in the first done items, become those of a
 // search in one item more.
-fn step(
-    board: &[u32],
-    index: &[u32],
-    items: usize,
-    done: usize,
-    receipts: &[u32],
-    chain: &[u32],
-    answers: &mut [u32],
-)
-    requires kept { (Kept board.now index.now items) × (done < items) }
-    requires answerable { (Answerable board.now receipts.now answers.old) × (chain.now ≡ receipt_chain board.now receipts.now) }
-    requires answers_value { answers.old ≡ answers_up_to board.now receipts.now done (length answers.old) }
+fn step(linked: &Linked, done: usize, answers: &mut [u32])
+    requires done_in { done < linked.now.asked.passed.count }
+    requires room { receipt_count (format_of linked.now.asked.passed.board.now) linked.now.asked.receipts.now ≤ length answers.old }
+    requires answers_value { answers.old ≡ answers_up_to linked.now.asked.passed.board.now linked.now.asked.receipts.now done (length answers.old) }
     ensures { answers.new
-        ≡ answers_up_to board.now receipts.now (done + 1) (length answers.old) }
+        ≡ answers_up_to linked.now.asked.passed.board.now linked.now.asked.receipts.now (done + 1) (length answers.old) }
 {
+    let passed = linked.asked.passed;
     let k = done + 1;
-    let e = index::entry(board, index, items, k);
+    let e = passed.entry(k);
     if e.item.head.code != Head::CAST {
         return;
     }
-    let number = index::mains_before(board, index, items, k) + 1;
-    answer_cast(board, e, number as u32, receipts, chain, answers);
+    let number = passed.mains_before(k) + 1;
+    answer_cast(linked, e, number as u32, answers);
 }
 
 // Answers every receipt from a board that was accepted, in one pass over its items: the main number of the first cast with its address and
 // signature, or none; then zeros.
-pub fn answer_accepted(
-    board: &[u32],
-    index: &[u32],
-    items: u32,
-    receipts: &[u32],
-    answers: &mut [u32],
-)
-    requires { (Kept board.now index.now items) × (Answerable board.now receipts.now answers.old) }
-    ensures { answers.new ≡ answers_after (format_of board.now) receipts.now
-        (accepted (before board.now items)) answers.old }
+pub fn answer_accepted(passed: &Passed, receipts: &[u32], answers: &mut [u32])
+    requires { Answerable passed.now.board.now receipts.now answers.old }
+    ensures { answers.new ≡ answers_after (format_of passed.now.board.now) receipts.now
+        (accepted (history_of passed.now)) answers.old }
 {
+    let asked = Asked {
+        passed: *passed,
+        receipts,
+    };
     let mut chain = [0; Chain::WORDS];
-    link(board, receipts, &mut chain);
-    start(answers, count(board, receipts));
-    let total = words::wide(items);
-    let mut done = 0;
-    while done < total {
-        step(board, index, total, done, receipts, &chain, answers);
-        done += 1;
+    link(&asked, &mut chain);
+    let linked = Linked {
+        asked,
+        chain: &chain,
+    };
+    start(answers, count(passed.board, receipts));
+    for done in 0..passed.count {
+        step(&linked, done, answers);
     }
 }

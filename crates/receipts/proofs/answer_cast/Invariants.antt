@@ -12,9 +12,11 @@ use Rattle.receipts.proofs.answer_cast.Given as goal
 
 abbrev pub invariant-loop-k : goal.invariant-loop-k
 invariant-loop-k l =
-    (l.k ≤ receipt_count (format_of l.board) l.receipts)
-    × (last_in (by_receipt l.board l.receipts) (get_or l.board l.e.item.address 0 % buckets) l.k ≡ l.k)
-    × Renewed (new_answer l.board l.receipts (entry_from l.board l.e) l.number l.initial.answers) l.initial.answers l.k l.answers
+    let board = l.linked.asked.passed.board.now in
+    let receipts = l.linked.asked.receipts.now in
+    (l.k ≤ receipt_count (format_of board) receipts)
+    × (last_in (by_receipt board receipts) (get_or board l.e.item.address 0 % buckets) l.k ≡ l.k)
+    × Renewed (new_answer board receipts (entry_from board l.e) l.number l.initial.answers) l.initial.answers l.k l.answers
 
 abbrev pub decreases-loop-k : goal.decreases-loop-k
 decreases-loop-k l = l.k

@@ -1,12 +1,6 @@
 -- `count` meets its contract: a receipt has some words. Assumes nothing.
-use Prim.Native.Nat.{◌/◌}
-use mathlib.Core.Path.{ap}
-use lib.ListN.{length}
 use Rattle.receipts.proofs.Places.{size-some}
 use Rattle.receipts.proofs.count.Goals as goal
 
 pub nonzero_div-result : goal.nonzero_div-result
 nonzero_div-result c = size-some _ c.size.ensures
-
-pub returns : goal.returns
-returns c = ap (length c.args.receipts.now /◌) c.size.ensures

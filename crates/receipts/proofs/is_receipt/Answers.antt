@@ -9,42 +9,42 @@ use borrow.Author.Rules.{rules}
 use Rattle.receipts.proofs.is_receipt.Goals as goal
 
 pub overflow_sub-address : goal.overflow_sub-address
-overflow_sub-address c = omega (arith, known-end c.requires.known.0)
+overflow_sub-address c = omega (arith, known-end c.requires.known)
 
 pub overflow_sub-signature : goal.overflow_sub-signature
-overflow_sub-signature c = omega (arith, known-begins c.requires.known.0)
+overflow_sub-signature c = omega (arith, known-begins c.requires.known)
 
 -- where the receipt stands, by the widths that the code finds
 pub overflow_mul-at : goal.overflow_mul-at
 overflow_mul-at c =
-    let at = placed c.requires.known.1 (signature-width c.requires.known.0) (known-width c.requires.known.0) c.requires.k_bound in
+    let at = placed c.args.asked.now.whole (signature-width c.requires.known) (known-width c.requires.known) c.requires.k_bound in
     search (rules, at.place)
 
 pub overflow_add-at-2 : goal.overflow_add-at-2
 overflow_add-at-2 c =
-    let at = placed c.requires.known.1 (signature-width c.requires.known.0) (known-width c.requires.known.0) c.requires.k_bound in
+    let at = placed c.args.asked.now.whole (signature-width c.requires.known) (known-width c.requires.known) c.requires.k_bound in
     search (rules, at.place)
 
 pub part-given-requires : goal.part-given-requires
 part-given-requires c =
-    (placed c.requires.known.1 (signature-width c.requires.known.0) (known-width c.requires.known.0) c.requires.k_bound).end
+    (placed c.args.asked.now.whole (signature-width c.requires.known) (known-width c.requires.known) c.requires.k_bound).end
 
 pub part-requires : goal.part-requires
-part-requires c = let is = c.requires.known.0 in rw (known-width is) (known-within is).address
+part-requires c = let is = c.requires.known in rw (known-width is) (known-within is).address
 
 pub returns-then-not-same_words : goal.returns-then-not-same_words
 returns-then-not-same_words c =
-    let is = c.requires.known.0 in
+    let is = c.requires.known in
     address-other is _ c.args.k (signature-width is) (known-width is) (rw (c.part.ensures.value, c.part-given.ensures.value) at c.same_words.ensures) (ap not c.if-not-same_words.true)
 
 pub part-given-requires-2 : goal.part-given-requires-2
 part-given-requires-2 c =
-    within (placed c.requires.known.1 (signature-width c.requires.known.0) (known-width c.requires.known.0) c.requires.k_bound)
+    within (placed c.args.asked.now.whole (signature-width c.requires.known) (known-width c.requires.known) c.requires.k_bound)
 
 pub part-requires-2 : goal.part-requires-2
-part-requires-2 c = let is = c.requires.known.0 in rw (signature-width is) (known-within is).signature
+part-requires-2 c = let is = c.requires.known in rw (signature-width is) (known-within is).signature
 
 pub returns : goal.returns
 returns c =
-    let is = c.requires.known.0 in
+    let is = c.requires.known in
     address_same is _ c.args.k (signature-width is) (known-width is) (rw (c.part.ensures.value, c.part-given.ensures.value) at c.same_words.ensures) (ap not c.if-not-same_words.false) (rw (c.part-2.ensures.value, c.part-given-2.ensures.value) at c.same_words-2.ensures)

@@ -1,7 +1,4 @@
 -- `size` meets its contract: the widths that it adds are the board's. Assumes nothing.
-use Prim.Native.Nat.{◌+◌}
-use mathlib.Core.Path.{ap}
-use Rattle.format.specs.declared.format.Format.{Format}
 use Rattle.format.proofs.Traits.{sizes, knows}
 use borrow.Author.Rules.{rules}
 use Rattle.receipts.proofs.size.Goals as goal
@@ -11,6 +8,3 @@ overflow_add-result c =
     let b = sizes c.args.board.now in
     let k = knows c.of-f.ensures in
     search (rules, k.signature)
-
-pub returns : goal.returns
-returns c = ap (λ (f : Format). f.signature + f.address) c.of-f.ensures
