@@ -7,6 +7,7 @@ ghost use Rattle.index.specs.Known.{Passing};
 ghost use Rattle.step.specs.Steps.{Reached, Stepped};
 
 use index::Known;
+use index::addition::Addition;
 use refusal::Refusal;
 use roll::Roll;
 use state::State;
@@ -27,9 +28,20 @@ fn pass(
     ensures { (result.items ≡ s.items + 1)
         × (Reached board.now index.new ballots.new parents.new sessions.new result) }
 {
-    let rows = tally::after(board, index, ballots, s, c);
-    let next = s.after(board, index, c, rows);
-    lookup::bucket::link(board, index, parents, sessions, s.items, c);
+    let progress = Progress {
+        board,
+        index,
+        state: s,
+    };
+    let addition = Addition {
+        board,
+        index,
+        count: s.items,
+        known: c,
+    };
+    let rows = tally::after(&progress, ballots, c);
+    let next = s.after(&addition, rows);
+    lookup::bucket::link(&addition, parents, sessions);
     index::put(board, index, s.items, c, s.mains);
     next
 }
