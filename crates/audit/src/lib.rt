@@ -13,26 +13,31 @@ use report::{Report, refused};
 
 pub mod run;
 
+// What an audit is of: a board, the verdict words on its items, and the roll of its voters.
+#[derive(Clone, Copy)]
+pub struct Submission<'a> {
+    pub board: &'a [u32],
+    pub verdicts: &'a [u32],
+    pub roll: &'a [u32],
+}
+
 // Audits a board with its verdict words and the roll of its voters. The index table and the ballot table are lent for writing: the word
 // limit and 2 change neither, every later refusal leaves both all zero, and acceptance leaves the rows and zeros.
-pub fn audit(
-    board: &[u32],
-    verdicts: &[u32],
-    roll: &[u32],
-    index: &mut [u32],
-    ballots: &mut [u32],
-) -> Report
-    ensures answer { reported result ≡ report_of (format_of board.now) (outcome_of board verdicts roll index ballots) }
-    ensures index { index.new ≡ index_after (outcome_of board verdicts roll index ballots) index.old }
-    ensures ballots { ballots.new ≡ ballots_after (outcome_of board verdicts roll index ballots) ballots.old }
+pub fn audit(submission: &Submission, index: &mut [u32], ballots: &mut [u32]) -> Report
+    ensures answer { reported result ≡ report_of (format_of submission.now.board.now) (outcome_of submission.now index ballots) }
+    ensures index { index.new ≡ index_after (outcome_of submission.now index ballots) index.old }
+    ensures ballots { ballots.new ≡ ballots_after (outcome_of submission.now index ballots) ballots.old }
 {
     // 1 oversize: more words than the limit
-    if Limit::WORDS < board.len() {
+    if Limit::WORDS < submission.board.len() {
         return refused(Refusal::TooLarge, 0);
     }
     // 2 short sheet
-    if index.len() < Limit::INDEX || ballots.len() < Limit::BALLOTS {
+    if index.len() < Limit::INDEX {
         return refused(Refusal::ShortTable, 0);
     }
-    run::read(board, verdicts, roll, index, ballots)
+    if ballots.len() < Limit::BALLOTS {
+        return refused(Refusal::ShortTable, 0);
+    }
+    run::read(submission, index, ballots)
 }

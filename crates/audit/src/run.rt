@@ -7,6 +7,7 @@ ghost use Rattle.report.specs.Reported.{reported};
 ghost use Rattle.audit.specs.Outcome.{items_outcome, outcome_of};
 ghost use Rattle.audit.specs.Tables.{Sized, Zeros, Holds};
 
+use crate::Submission;
 use chains::Chain;
 use format::board;
 use format::head::Head;
@@ -60,34 +61,28 @@ fn run(
 }
 
 // The audit of a board within the word limit, with tables that are long enough.
-pub fn read(
-    board: &[u32],
-    verdicts: &[u32],
-    roll: &[u32],
-    index: &mut [u32],
-    ballots: &mut [u32],
-) -> Report
-    requires { Sized board.now index.old ballots.old }
-    ensures answer { reported result ≡ report_of (format_of board.now) (outcome_of board verdicts roll index ballots) }
-    ensures index { index.new ≡ index_after (outcome_of board verdicts roll index ballots) index.old }
-    ensures ballots { ballots.new ≡ ballots_after (outcome_of board verdicts roll index ballots) ballots.old }
+pub fn read(submission: &Submission, index: &mut [u32], ballots: &mut [u32]) -> Report
+    requires { Sized submission.now.board.now index.old ballots.old }
+    ensures answer { reported result ≡ report_of (format_of submission.now.board.now) (outcome_of submission.now index ballots) }
+    ensures index { index.new ≡ index_after (outcome_of submission.now index ballots) index.old }
+    ensures ballots { ballots.new ≡ ballots_after (outcome_of submission.now index ballots) ballots.old }
 {
     index.fill(0);
     ballots.fill(0);
     // 20 bad roll
-    let Some(roll) = Roll::new(roll) else {
+    let Some(roll) = Roll::new(submission.roll) else {
         return refused(Refusal::BadRoll, 0);
     };
     // 3 blank
-    if board::is_empty(board) {
+    if board::is_empty(submission.board) {
         return refused(Refusal::EmptyBoard, 0);
     }
     // The chain tables, without an item.
     let mut parents = [0; Chain::WORDS];
     let mut sessions = [0; Chain::WORDS];
     let report = run(
-        board,
-        verdicts,
+        submission.board,
+        submission.verdicts,
         &roll,
         index,
         ballots,
