@@ -28,6 +28,7 @@ use Rattle.std.specs.Prelude.{Ok, Err}
 use Rattle.refusal.specs.declared.Refused.{Refused}
 use Rattle.report.specs.declared.Accepted.{Accepted}
 use Rattle.report.specs.Reported.{reported}
+use Rattle.audit.specs.declared.Submission.{Submission}
 use Rattle.audit.proofs.Whole.{Report, Audited, outcome, refused-number, accepted-number}
 
 -- a sound board, and a table with the rows of its items
@@ -55,11 +56,20 @@ pub data RefusedAs (o : Outcome) (n k : ℕ) : Type 0 where
   unchanged : o ≡ unread n → k ≡ 0 → RefusedAs o n k
   cleared : o ≡ refused n k → RefusedAs o n k
 
-module _ (board verdicts roll index ballots : List ℕ) (r : Report) {i b : List ℕ} (a : Audited board verdicts roll index ballots r i b) where
+module _ (submission : Submission) (index ballots : List ℕ) (r : Report) {i b : List ℕ} (a : Audited submission index ballots r i b) where
+  abbrev board : List ℕ
+  board = submission.board.now
+
+  abbrev verdicts : List ℕ
+  verdicts = submission.verdicts.now
+
+  abbrev roll : List ℕ
+  roll = submission.roll.now
+
   -- ---- acceptance
 
   module _ {got : Accepted} (answer : r ≡ Ok got) where
-    accepted-is : (o : Outcome) → outcome board verdicts roll index ballots ≡ o → o ≡ accepted (before board got.items)
+    accepted-is : (o : Outcome) → outcome submission index ballots ≡ o → o ≡ accepted (before board got.items)
     unfolding report_of
     accepted-is (unread m) e =
         let number = sym (accepted-number r answer) ∙ ap (λ (t : model.Report). t.number) (rw e at a.0) in
@@ -75,8 +85,8 @@ module _ (board verdicts roll index ballots : List ℕ) (r : Report) {i b : List
         sym (ap (λ (x : Report). (reported x).items) answer) ∙ ap (λ (t : model.Report). t.items) (rw e at a.0) in
         ap accepted (sound-history sound ∙ ap (before board) (sym same))
 
-    pub accepted-outcome : outcome board verdicts roll index ballots ≡ accepted (before board got.items)
-    accepted-outcome = accepted-is (outcome board verdicts roll index ballots) refl
+    pub accepted-outcome : outcome submission index ballots ≡ accepted (before board got.items)
+    accepted-outcome = accepted-is (outcome submission index ballots) refl
 
     -- "a board is accepted if and only if it is sound", and the tables are long enough
     accepted-all : Sound (format_of board) board verdicts roll (before board got.items) × (index_need ≤ length index) × (ballot_need ≤ length ballots)
@@ -131,7 +141,7 @@ module _ (board verdicts roll index ballots : List ℕ) (r : Report) {i b : List
   -- ---- a refusal
 
   module _ {x : Refused} (answer : r ≡ Err x) where
-    refused-is : (o : Outcome) → outcome board verdicts roll index ballots ≡ o → RefusedAs o (number_of x.refusal) x.items
+    refused-is : (o : Outcome) → outcome submission index ballots ≡ o → RefusedAs o (number_of x.refusal) x.items
     unfolding report_of
     refused-is (unread m) e =
         let number = sym (refused-number r answer) ∙ ap (λ (t : model.Report). t.number) (rw e at a.0) in
@@ -145,5 +155,5 @@ module _ (board verdicts roll index ballots : List ℕ) (r : Report) {i b : List
         let number = sym (refused-number r answer) ∙ ap (λ (t : model.Report). t.number) (rw e at a.0) in
         absurd (omega (arith, number-some x.refusal))
 
-    pub refused-outcome : RefusedAs (outcome board verdicts roll index ballots) (number_of x.refusal) x.items
-    refused-outcome = refused-is (outcome board verdicts roll index ballots) refl
+    pub refused-outcome : RefusedAs (outcome submission index ballots) (number_of x.refusal) x.items
+    refused-outcome = refused-is (outcome submission index ballots) refl

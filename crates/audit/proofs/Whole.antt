@@ -23,6 +23,7 @@ use Rattle.std.specs.Prelude.{Result, Ok, Err}
 use Rattle.refusal.specs.declared.Refused.{Refused}
 use Rattle.report.specs.declared.Accepted.{Accepted}
 use Rattle.report.specs.Reported.{reported}
+use Rattle.audit.specs.declared.Submission.{Submission}
 use Rattle.audit.specs.Tables.{Sized, Zeros, Holds}
 
 abbrev pub Report : Type 0
@@ -43,7 +44,16 @@ refused-number r e = ap (λ (a : Report). (reported a).number) e
 pub accepted-number : (r : Report) {a : Accepted} → r ≡ Ok a → (reported r).number ≡ no_fault
 accepted-number r e = ap (λ (a : Report). (reported a).number) e
 
-module _ (board verdicts roll index ballots : List ℕ) where
+module _ (submission : Submission) (index ballots : List ℕ) where
+  abbrev board : List ℕ
+  board = submission.board.now
+
+  abbrev verdicts : List ℕ
+  verdicts = submission.verdicts.now
+
+  abbrev roll : List ℕ
+  roll = submission.roll.now
+
   abbrev pub outcome : Outcome
   outcome = audit (format_of board) board verdicts roll (length index) (length ballots)
 

@@ -6,7 +6,7 @@ use Rattle.audit.proofs.run.read.Goals as goal
 pub returns-then-is_bad_roll : goal.returns-then-is_bad_roll
 returns-then-is_bad_roll c =
     let x = c.args in
-    let a = audited-roll x.submission.now.board.now x.submission.now.verdicts.now x.submission.now.roll.now x.index.now x.ballots.now c.requires
+    let a = audited-roll x.submission.now x.index.now x.ballots.now c.requires
     (sym c.is_bad_roll.ensures ∙ c.if-is_bad_roll.true) c.refused.result (c.refused.ensures x.submission.now.board.now)
     c.clear.ensures c.clear-2.ensures in
     record { answer = a.0; index = a.1.0; ballots = a.1.1 }
@@ -14,7 +14,7 @@ returns-then-is_bad_roll c =
 pub returns-then-is_empty : goal.returns-then-is_empty
 returns-then-is_empty c =
     let x = c.args in
-    let a = audited-empty x.submission.now.board.now x.submission.now.verdicts.now x.submission.now.roll.now x.index.now x.ballots.now c.requires
+    let a = audited-empty x.submission.now x.index.now x.ballots.now c.requires
     (sym c.is_bad_roll.ensures ∙ c.if-is_bad_roll.false) (sym c.is_empty.ensures ∙ c.if-is_empty.true)
     c.refused-then-is_empty.result (c.refused-then-is_empty.ensures x.submission.now.board.now) c.clear.ensures c.clear-2.ensures in
     record { answer = a.0; index = a.1.0; ballots = a.1.1 }
@@ -22,7 +22,7 @@ returns-then-is_empty c =
 pub run-r-requires : goal.run-r-requires
 run-r-requires c =
     let x = c.args in record {
-      sized = cleared-zeros x.submission.now.board.now x.submission.now.verdicts.now x.submission.now.roll.now x.index.now x.ballots.now c.requires _ _ c.clear.ensures c.clear-2.ensures;
+      sized = cleared-zeros x.submission.now x.index.now x.ballots.now c.requires _ _ c.clear.ensures c.clear-2.ensures;
       parents_value = (chain-none _, chain-none _);
       good_roll = rw (sym c.is_bad_roll.ensures ∙ c.if-is_bad_roll.false) tt;
     }
@@ -30,7 +30,7 @@ run-r-requires c =
 pub returns-in-Refused : goal.returns-in-Refused
 returns-in-Refused c =
     let x = c.args in
-    let a = audited-cleared x.submission.now.board.now x.submission.now.verdicts.now x.submission.now.roll.now x.index.now x.ballots.now c.requires
+    let a = audited-cleared x.submission.now x.index.now x.ballots.now c.requires
     (sym c.is_bad_roll.ensures ∙ c.if-is_bad_roll.false) (sym c.is_empty.ensures ∙ c.if-is_empty.false) _ _ c.run-r.ensures.tables
     c.run-r.result c.run-r.ensures.answer c.in-Refused.is _ _
     c.clear-in-Refused.ensures c.clear-in-Refused-2.ensures (c.run-r.auto.index ∙ c.clear.auto.s)
@@ -40,7 +40,7 @@ returns-in-Refused c =
 pub returns-in_default : goal.returns-in_default
 returns-in_default c =
     let x = c.args in
-    let a = audited-filled x.submission.now.board.now x.submission.now.verdicts.now x.submission.now.roll.now x.index.now x.ballots.now c.requires
+    let a = audited-filled x.submission.now x.index.now x.ballots.now c.requires
     (sym c.is_bad_roll.ensures ∙ c.if-is_bad_roll.false) (sym c.is_empty.ensures ∙ c.if-is_empty.false) _ _ c.run-r.ensures.tables
     c.run-r.result c.run-r.ensures.answer c.in_default.is
     (c.run-r.auto.index ∙ c.clear.auto.s) (c.run-r.auto.ballots ∙ c.clear-2.auto.s) in
