@@ -4,12 +4,13 @@ use Rattle.std.specs.Prelude.{ℕ, ◌≤◌, Bool, ◌||◌, List, length, ltb}
 use Rattle.model.specs.Audit.{Outcome, word_limit, index_need, ballot_need, is_short}
 use Rattle.model.specs.Ancestry.{list_need, ancestry_audit}
 use Rattle.format.specs.Format.{format_of}
+use Rattle.audit.specs.declared.Submission.{Submission}
 use Rattle.audit.specs.Outcome.{Slice, MutSlice}
 
 -- the outcome of a board with its verdicts and its roll, and the two tables and the list by their lengths
-abbrev pub listing_outcome : {A B C D E F : Type 0} → Slice A → Slice B → Slice C → MutSlice D → MutSlice E → MutSlice F → Outcome
-listing_outcome board verdicts roll index ballots list =
-    ancestry_audit (format_of board.entry.now) board.entry.now verdicts.entry.now roll.entry.now
+abbrev pub listing_outcome : {D E F : Type 0} → Submission → MutSlice D → MutSlice E → MutSlice F → Outcome
+listing_outcome s index ballots list =
+    ancestry_audit (format_of s.board.now) s.board.now s.verdicts.now s.roll.now
     (length index.entry.now) (length ballots.entry.now) (length list.entry.now)
 
 -- "A shorter list sheet is 2, tested with the other sheets"

@@ -6,11 +6,12 @@ use Rattle.model.specs.Report as model
 use Rattle.refusal.specs.declared.Refused.{Refused}
 use Rattle.report.specs.Reported.{reported}
 use Rattle.entries.specs.declared.writing.Exported.{Exported}
+use Rattle.audit.specs.declared.Submission.{Submission}
 use Rattle.audit.specs.Outcome.{Slice, MutSlice, outcome_of}
 
 -- the outcome of a board with its verdicts and its roll, of the two tables and of the text buffer by their lengths
-abbrev pub writing_outcome : {A B C D E F : Type 0} → Slice A → Slice B → Slice C → MutSlice D → MutSlice E → MutSlice F → Outcome
-writing_outcome board verdicts roll index ballots text = export_outcome (length text.entry.now) (outcome_of board verdicts roll index ballots)
+abbrev pub writing_outcome : {D E F : Type 0} → Submission → MutSlice D → MutSlice E → MutSlice F → Outcome
+writing_outcome s index ballots text = export_outcome (length text.entry.now) (outcome_of s index ballots)
 
 -- the report of an answer, and how many bytes it says were written
 abbrev pub exported_report : Result Exported Refused → model.Report

@@ -7,32 +7,31 @@ ghost use Rattle.audit.specs.Outcome.{outcome_of};
 ghost use Rattle.receipts.specs.Answering.{Answerable};
 ghost use Rattle.entries.specs.Answering.{receipts_outcome, answers_left};
 
+use audit::Submission;
 use index::passed::Passed;
 use refusal::Refusal;
 use report::{Report, refused};
 
 // Audits a board and answers receipts that can be answered.
 fn answer_audited(
-    board: &[u32],
-    verdicts: &[u32],
-    roll: &[u32],
+    submission: &Submission,
     receipts: &[u32],
     index: &mut [u32],
     ballots: &mut [u32],
     answers: &mut [u32],
 ) -> Report
-    requires { Answerable board.now receipts.now answers.old }
-    ensures answer { reported result ≡ report_of (format_of board.now) (outcome_of board verdicts roll index ballots) }
-    ensures index { index.new ≡ index_after (outcome_of board verdicts roll index ballots) index.old }
-    ensures ballots { ballots.new ≡ ballots_after (outcome_of board verdicts roll index ballots) ballots.old }
+    requires { Answerable submission.now.board.now receipts.now answers.old }
+    ensures answer { reported result ≡ report_of (format_of submission.now.board.now) (outcome_of submission.now index ballots) }
+    ensures index { index.new ≡ index_after (outcome_of submission.now index ballots) index.old }
+    ensures ballots { ballots.new ≡ ballots_after (outcome_of submission.now index ballots) ballots.old }
     ensures answers { answers.new
-        ≡ answers_left board receipts (outcome_of board verdicts roll index ballots) answers.old }
+        ≡ answers_left submission.now.board.now receipts (outcome_of submission.now index ballots) answers.old }
 {
-    let accepted = audit::audit(board, verdicts, roll, index, ballots)?;
+    let accepted = audit::audit(submission, index, ballots)?;
     let passed = Passed {
-        board,
+        board: submission.board,
         index,
-        count: words::wide(accepted.items),
+        count: accepted.items as usize,
     };
     receipts::answer_accepted(&passed, receipts, answers);
     Ok(accepted)
@@ -42,30 +41,28 @@ fn answer_audited(
 // after them. Receipts that are not whole or too many are 22, and an answers buffer with fewer words than receipts is 2, both before the
 // audit and with no buffer changed. Any refusal leaves the answers buffer unchanged, and the two tables are as the audit leaves them.
 pub fn receipts(
-    board: &[u32],
-    verdicts: &[u32],
-    roll: &[u32],
+    submission: &Submission,
     receipts: &[u32],
     index: &mut [u32],
     ballots: &mut [u32],
     answers: &mut [u32],
 ) -> Report
     ensures answer { reported result
-        ≡ report_of (format_of board.now) (receipts_outcome board verdicts roll receipts index ballots answers) }
+        ≡ report_of (format_of submission.now.board.now) (receipts_outcome submission.now receipts index ballots answers) }
     ensures index { index.new
-        ≡ index_after (receipts_outcome board verdicts roll receipts index ballots answers) index.old }
+        ≡ index_after (receipts_outcome submission.now receipts index ballots answers) index.old }
     ensures ballots { ballots.new
-        ≡ ballots_after (receipts_outcome board verdicts roll receipts index ballots answers) ballots.old }
+        ≡ ballots_after (receipts_outcome submission.now receipts index ballots answers) ballots.old }
     ensures answers { answers.new
-        ≡ answers_left board receipts (receipts_outcome board verdicts roll receipts index ballots answers) answers.old }
+        ≡ answers_left submission.now.board.now receipts (receipts_outcome submission.now receipts index ballots answers) answers.old }
 {
     // 22 bad tray
-    if receipts::is_bad(board, receipts) {
+    if receipts::is_bad(submission.board, receipts) {
         return refused(Refusal::BadReceipts, 0);
     }
     // 2 short sheet
-    if answers.len() < receipts::count(board, receipts) {
+    if answers.len() < receipts::count(submission.board, receipts) {
         return refused(Refusal::ShortTable, 0);
     }
-    answer_audited(board, verdicts, roll, receipts, index, ballots, answers)
+    answer_audited(submission, receipts, index, ballots, answers)
 }

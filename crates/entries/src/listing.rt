@@ -6,6 +6,7 @@ ghost use Rattle.audit.specs.Outcome.{outcome_of};
 ghost use Rattle.ancestry.specs.Answer.{answer_of};
 ghost use Rattle.entries.specs.Listing.{is_short_for, listing_outcome, Sized};
 
+use audit::Submission;
 use format::limit::Limit;
 use index::passed::Passed;
 use refusal::{Refusal, Refused};
@@ -19,26 +20,24 @@ fn is_short(index: &[u32], ballots: &[u32], list: &[u32]) -> bool
 
 // Audits a board and lists an item's ancestry, where the board is within the word limit and all three buffers are long enough.
 fn list_audited(
-    board: &[u32],
-    verdicts: &[u32],
-    roll: &[u32],
+    submission: &Submission,
     number: usize,
     index: &mut [u32],
     ballots: &mut [u32],
     list: &mut [u32],
 ) -> Result<u32, Refused>
-    requires { Sized board.now index.old ballots.old list.old }
-    ensures answer { answer_of result ≡ ancestry_answer (outcome_of board verdicts roll index ballots) number }
-    ensures index { index.new ≡ index_after (outcome_of board verdicts roll index ballots) index.old }
-    ensures ballots { ballots.new ≡ ballots_after (outcome_of board verdicts roll index ballots) ballots.old }
-    ensures list { list.new ≡ list_after (outcome_of board verdicts roll index ballots) number list.old }
+    requires { Sized submission.now.board.now index.old ballots.old list.old }
+    ensures answer { answer_of result ≡ ancestry_answer (outcome_of submission.now index ballots) number }
+    ensures index { index.new ≡ index_after (outcome_of submission.now index ballots) index.old }
+    ensures ballots { ballots.new ≡ ballots_after (outcome_of submission.now index ballots) ballots.old }
+    ensures list { list.new ≡ list_after (outcome_of submission.now index ballots) number list.old }
 {
     list.fill(0);
-    let accepted = audit::audit(board, verdicts, roll, index, ballots)?;
+    let accepted = audit::audit(submission, index, ballots)?;
     let passed = Passed {
-        board,
+        board: submission.board,
         index,
-        count: words::wide(accepted.items),
+        count: accepted.items as usize,
     };
     ancestry::list_accepted(&passed, number, list)
 }
@@ -46,24 +45,22 @@ fn list_audited(
 // Audits a board, then lists the ancestry of an item: its item number first, genesis last, zeros after them. The word limit and 2 change no
 // buffer; under any other refusal the list is all zero, and the two tables are as the audit leaves them.
 pub fn ancestry(
-    board: &[u32],
-    verdicts: &[u32],
-    roll: &[u32],
+    submission: &Submission,
     number: usize,
     index: &mut [u32],
     ballots: &mut [u32],
     list: &mut [u32],
 ) -> Result<u32, Refused>
-    ensures answer { answer_of result ≡ ancestry_answer (listing_outcome board verdicts roll index ballots list) number }
+    ensures answer { answer_of result ≡ ancestry_answer (listing_outcome submission.now index ballots list) number }
     ensures index { index.new
-        ≡ index_after (listing_outcome board verdicts roll index ballots list) index.old }
+        ≡ index_after (listing_outcome submission.now index ballots list) index.old }
     ensures ballots { ballots.new
-        ≡ ballots_after (listing_outcome board verdicts roll index ballots list) ballots.old }
+        ≡ ballots_after (listing_outcome submission.now index ballots list) ballots.old }
     ensures list { list.new
-        ≡ list_after (listing_outcome board verdicts roll index ballots list) number list.old }
+        ≡ list_after (listing_outcome submission.now index ballots list) number list.old }
 {
     // 1 oversize: more words than the limit
-    if Limit::WORDS < board.len() {
+    if Limit::WORDS < submission.board.len() {
         return Err(Refused {
             refusal: Refusal::TooLarge,
             items: 0,
@@ -76,5 +73,5 @@ pub fn ancestry(
             items: 0,
         });
     }
-    list_audited(board, verdicts, roll, number, index, ballots, list)
+    list_audited(submission, number, index, ballots, list)
 }

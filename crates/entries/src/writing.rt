@@ -6,6 +6,7 @@ ghost use Rattle.format.specs.Format.{format_of};
 ghost use Rattle.audit.specs.Outcome.{outcome_of};
 ghost use Rattle.entries.specs.Writing.{writing_outcome, exported_report, exported_bytes};
 
+use audit::Submission;
 use refusal::{Refusal, Refused};
 use report::Accepted;
 
@@ -20,21 +21,19 @@ pub struct Exported {
 // 2, with 0 items, and comes after the audit. Any refusal leaves the text buffer as it was, and so are the bytes behind the text. The two
 // tables are as the audit leaves them, also where the text buffer is short.
 pub fn export(
-    board: &[u32],
-    verdicts: &[u32],
-    roll: &[u32],
+    submission: &Submission,
     index: &mut [u32],
     ballots: &mut [u32],
     text: &mut [u8],
 ) -> Result<Exported, Refused>
     ensures report { exported_report result
-        ≡ report_of (format_of board.now) (writing_outcome board verdicts roll index ballots text) }
-    ensures bytes { exported_bytes result ≡ export_length (writing_outcome board verdicts roll index ballots text) }
-    ensures index { index.new ≡ index_after (outcome_of board verdicts roll index ballots) index.old }
-    ensures ballots { ballots.new ≡ ballots_after (outcome_of board verdicts roll index ballots) ballots.old }
-    ensures text { text.new ≡ text_after (writing_outcome board verdicts roll index ballots text) text.old }
+        ≡ report_of (format_of submission.now.board.now) (writing_outcome submission.now index ballots text) }
+    ensures bytes { exported_bytes result ≡ export_length (writing_outcome submission.now index ballots text) }
+    ensures index { index.new ≡ index_after (outcome_of submission.now index ballots) index.old }
+    ensures ballots { ballots.new ≡ ballots_after (outcome_of submission.now index ballots) ballots.old }
+    ensures text { text.new ≡ text_after (writing_outcome submission.now index ballots text) text.old }
 {
-    let accepted = audit::audit(board, verdicts, roll, index, ballots)?;
+    let accepted = audit::audit(submission, index, ballots)?;
     match export::export_accepted(board, index, accepted.items, text) {
         Some(bytes) => Ok(Exported { accepted, bytes }),
         // 2 short sheet
