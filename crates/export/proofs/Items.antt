@@ -29,8 +29,8 @@ use Rattle.index.specs.Kept.{before, Kept}
 use Rattle.index.specs.Known.{IsKnown}
 use Rattle.index.proofs.Items.{entry-made}
 use Rattle.index.proofs.Reading.{entry_known, known-item, known-main}
-use Rattle.export.specs.Lines.{entry_text, Whole}
-use Rattle.export.proofs.Sizes.{line_limit, line-few}
+use Rattle.export.specs.Lines.{entry_text, Whole, line_limit}
+use Rattle.export.proofs.Sizes.{line-few}
 
 -- ---- an item as the code knows it
 

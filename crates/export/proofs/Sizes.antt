@@ -23,7 +23,7 @@ use Rattle.format.specs.declared.item.Item.{Item}
 use Rattle.format.specs.Format.{format_of}
 use Rattle.format.specs.Layout.{item_of, item_on}
 use Rattle.format.proofs.Traits.{sizes}
-use Rattle.export.specs.Lines.{Whole}
+use Rattle.export.specs.Lines.{Whole, line_limit}
 use Rattle.export.proofs.Parts.{width, stands, width-board}
 
 -- ---- the digits of a number, counted from the last
@@ -58,10 +58,6 @@ measured {board} {i} w =
       time = ap (λ (x : Item). pair (part x.time 2 board)) w.same;
       count = ap (λ (x : Item). x.head.count) w.same;
     }
-
--- the most bytes of a line: its fixed bytes and the digits of its numbers, at most 4 and 20, and 8 for each word of its strings
-abbrev pub line_limit : ℕ
-line_limit = 94 + 8 * (3 * 16 + 65535)
 
 module _ {board : List ℕ} {i : Item} (w : Whole board i) where
   abbrev m : Measured board i

@@ -1,5 +1,5 @@
 -- The text of an entry of a history, a line in two parts, and an item that stands whole on a board. Paper: request (xi). Assumes nothing.
-use Rattle.std.specs.Prelude.{ℕ, ◌≤◌, ◌≡◌, Bool, Option, Some, None, List, [], ◌++◌, length, leb}
+use Rattle.std.specs.Prelude.{ℕ, ◌≤◌, ◌≡◌, Bool, Option, Some, None, List, [], ◌++◌, length, leb, ◌+◌, ◌*◌}
 use Rattle.model.specs.Lists.{if◌then◌otherwise◌}
 use Rattle.model.specs.Item as model
 use Rattle.model.specs.History.{History, Entry, main}
@@ -41,3 +41,7 @@ pub record Whole (board : List ℕ) (item : Item) : Type 0 where
   pub same : item ≡ item_of board item.place
   pub within : item.end ≤ length board
   pub words : length board ≤ word_limit
+
+-- no line has more bytes: those beside its digits and of its numbers, and the digits of three addresses and of the longest content
+abbrev pub line_limit : ℕ
+line_limit = 94 + 8 * (3 * 16 + 65535)

@@ -6,60 +6,51 @@ ghost use Rattle.std.specs.Prelude.{◌≡◌, ◌+◌, ◌≤◌, ◌<◌, leng
 ghost use Rattle.model.specs.History.{entry};
 ghost use Rattle.model.specs.Audit.{accepted};
 ghost use Rattle.exporting.specs.Export.{export_text, export_outcome, text_after};
-ghost use Rattle.index.specs.Kept.{before, Kept};
+ghost use Rattle.index.specs.Passed.{history_of};
 ghost use Rattle.text.specs.Put.{Put};
 ghost use Rattle.export.specs.Lines.{entry_text, bytes_in};
 
 use format::head::Head;
+use index::passed::Passed;
 
 pub mod hex;
 pub mod line;
 pub mod size;
 
 // Writes the line of the item after the first done, if it is a main item, and gives the place behind it.
-fn put_next(
-    out: &mut [u8],
-    at: usize,
-    board: &[u32],
-    index: &[u32],
-    items: usize,
-    done: usize,
-) -> usize
-    requires kept { (Kept board.now index.now items) × (done < items) }
-    requires done_in_bounds { at + length (entry_text (entry (before board.now items) (done + 1))) ≤ length out.old }
-    ensures { Put out.old at (entry_text (entry (before board.now items) (done + 1))) out.new result }
+fn put_next(out: &mut [u8], at: usize, passed: &Passed, done: usize) -> usize
+    requires more { done < passed.now.count }
+    requires done_in_bounds { at + length (entry_text (entry (history_of passed.now) (done + 1))) ≤ length out.old }
+    ensures { Put out.old at (entry_text (entry (history_of passed.now) (done + 1))) out.new result }
 {
-    let e = index::entry(board, index, items, done + 1);
-    let item = e.item;
+    let item = passed.entry(done + 1).item;
     if item.head.kind != Head::MAIN {
         return at;
     }
-    line::put_line(out, at, board, item)
+    line::put_line(out, at, passed.board, item)
 }
 
 // Writes the line of each main item, where there is room for all.
-fn put_all(board: &[u32], index: &[u32], items: usize, text: &mut [u8])
-    requires { (Kept board.now index.now items) × (length (export_text (before board.now items)) ≤ length text.old) }
-    ensures { text.new ≡ text_after (accepted (before board.now items)) text.old }
+fn put_all(passed: &Passed, text: &mut [u8])
+    requires { length (export_text (history_of passed.now)) ≤ length text.old }
+    ensures { text.new ≡ text_after (accepted (history_of passed.now)) text.old }
 {
     let mut at = 0;
-    for done in 0..items {
-        at = put_next(text, at, board, index, items, done);
+    for done in 0..passed.count {
+        at = put_next(text, at, passed, done);
     }
 }
 
 // Exports a board that was accepted, and gives how many bytes its text has. Where the buffer is shorter than the text, no byte is written.
-pub fn export_accepted(board: &[u32], index: &[u32], items: u32, text: &mut [u8]) -> Option<u32>
-    requires { Kept board.now index.now items }
-    ensures bytes { result ≡ bytes_in (length text.old) (before board.now items) }
+pub fn export_accepted(passed: &Passed, text: &mut [u8]) -> Option<u32>
+    ensures bytes { result ≡ bytes_in (length text.old) (history_of passed.now) }
     ensures text { text.new
-        ≡ text_after (export_outcome (length text.old) (accepted (before board.now items))) text.old }
+        ≡ text_after (export_outcome (length text.old) (accepted (history_of passed.now))) text.old }
 {
-    let total = words::wide(items);
-    let bytes = size::of_text(board, index, total);
+    let bytes = size::of_text(passed);
     if text.len() < bytes {
         return None;
     }
-    put_all(board, index, total, text);
+    put_all(passed, text);
     Some(bytes as u32)
 }

@@ -37,4 +37,6 @@ overflow_add-result-3 c =
     omega (arith, sum.1)
 
 pub returns : goal.returns
-returns c = (line-sum c.requires (λ j. (c.type_inv.board j).fits) c.digits.ensures c.pair_at.ensures c.digits-2.ensures).0
+returns c =
+    let sum = line-sum c.requires (λ j. (c.type_inv.board j).fits) c.digits.ensures c.pair_at.ensures c.digits-2.ensures in
+    record { size = sum.0; few = sum.1 }
