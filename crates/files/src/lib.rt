@@ -18,7 +18,7 @@ pub fn fill<R: Read>(from: &mut R, buf: &mut [u8]) -> usize
     ensures within { result ≤ length buf.new }
     ensures bytes { Consumes (R.remaining from.old) (R.remaining from.new) (take result buf.new) }
 {
-    let mut done: usize = 0;
+    let mut done = 0;
     while done < buf.len() {
         match from.read(&mut buf[done..]) {
             Ok(0) => return done,
@@ -41,15 +41,13 @@ fn skip<R: Read>(from: &mut R) -> usize
 fn skip_all<R: Read>(from: &mut R) -> usize
     ensures { result ≤ 2 ^ 56 }
 {
-    let mut total: usize = 0;
-    let mut reads: usize = 0;
-    while reads < READS {
+    let mut total = 0;
+    for _ in 0..READS {
         let n = skip(from);
         if n == 0 {
             return total;
         }
         total += n;
-        reads += 1;
     }
     total
 }
