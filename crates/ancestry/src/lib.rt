@@ -20,10 +20,7 @@ pub fn list_accepted(passed: &Passed, number: usize, list: &mut [u32]) -> Result
     let count = passed.count;
     // 19 no such point: item number 0, or past the last
     if number == 0 || count < number {
-        return Err(Refused {
-            refusal: Refusal::NoSuchItem,
-            items: count as u32,
-        });
+        return Err(Refused::after(Refusal::NoSuchItem, count));
     }
     Ok(climb::climb(passed, number, list) as u32)
 }

@@ -49,10 +49,7 @@ pub fn compare_accepted(
     if number == 0 || later.mains < number {
         return Err(RefusedBoard {
             board: Board::Later,
-            refused: Refused {
-                refusal: Refusal::NoSuchItem,
-                items: later.passed.count as u32,
-            },
+            refused: Refused::after(Refusal::NoSuchItem, later.passed.count),
         });
     }
     Ok(pairs::compare(&kept.passed, kept.mains, &later.passed, number))

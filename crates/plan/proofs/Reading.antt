@@ -36,9 +36,10 @@ use Rattle.plan.proofs.Blocks.{blocks-few}
 
 -- ---- before the heads, and what a refusal gives
 
-pub refused-plan : (x : Refusal) (items : ℕ) (board : List ℕ) → planned (Err (record { refusal = x; items = items })) ≡ plan_from board (refused (number_of x) items)
+pub refused-plan : {x : Refusal} {items : ℕ} {r : Refused} (board : List ℕ) → r ≡ record { refusal = x; items = items }
+    → planned (Err r) ≡ plan_from board (refused (number_of x) items)
 unfolding plan_of
-refused-plan x items board = refl
+refused-plan board e = rw e
 
 module _ (board : List ℕ) (r : Result Plan Refused) where
   pub plan-large : word_limit < length board → planned r ≡ plan_from board (refused too_large 0) → planned r ≡ plan board

@@ -2,10 +2,10 @@
 // It is read off the heads: an item's other words are not read, and nothing is hashed. Paper: request (x).
 #![tactic(auto)]
 
-ghost use Rattle.std.specs.Prelude.{◌≡◌, false, List, ℕ, ◌<◌, ◌≤◌, length, get_or};
-ghost use Rattle.model.specs.Audit.{refused, item_limit, word_limit, is_empty};
+ghost use Rattle.std.specs.Prelude.{◌≡◌, false, ◌<◌, ◌≤◌, length, get_or};
+ghost use Rattle.model.specs.Audit.{word_limit, is_empty};
 ghost use Rattle.format.specs.Format.{widths_of};
-ghost use Rattle.refusal.specs.Number.{number_of, found_of};
+ghost use Rattle.refusal.specs.Number.{found_of};
 ghost use Rattle.planning.specs.Plan.{plan, hash_on, blocks_for};
 ghost use Rattle.plan.specs.Planned.{planned, plan_from, IsLook, Read, closing_read, word_fault, Known, known_after};
 
@@ -31,11 +31,11 @@ impl Plan {
     {
         // 1 oversize: more words than the limit
         if Limit::WORDS < board.len() {
-            return refused(Refusal::TooLarge, 0);
+            return Err(Refused::after(Refusal::TooLarge, 0));
         }
         // 3 blank
         if board::is_empty(board) {
-            return refused(Refusal::EmptyBoard, 0);
+            return Err(Refused::after(Refusal::EmptyBoard, 0));
         }
         read(board)
     }
@@ -123,17 +123,6 @@ fn look_at(board: &[u32], format: Format, place: usize, known: &mut [u32]) -> Re
     })
 }
 
-// A refusal after so many items.
-fn refused(refusal: Refusal, items: usize) -> Result<Plan, Refused>
-    requires { items ≤ item_limit }
-    ensures { (board : List ℕ) → planned result ≡ plan_from board (refused (number_of refusal) items) }
-{
-    Err(Refused {
-        refusal,
-        items: items as u32,
-    })
-}
-
 // The plan at the closing word.
 fn close(board: &[u32], s: Heads) -> Result<Plan, Refused>
     requires { (Read board.now s) × (s.place < length board.now) × (length board.now ≤ word_limit) }
@@ -141,7 +130,7 @@ fn close(board: &[u32], s: Heads) -> Result<Plan, Refused>
 {
     // 18 bad close
     if !board::is_closed(board, s.items, s.place) {
-        return refused(Refusal::BadClosing, s.items);
+        return Err(Refused::after(Refusal::BadClosing, s.items));
     }
     Ok(Plan {
         items: s.items as u32,
@@ -166,17 +155,17 @@ fn read(board: &[u32]) -> Result<Plan, Refused>
         let place = s.place;
         // 4 torn: no closing word
         if board.len() <= place {
-            return refused(Refusal::Truncated, s.items);
+            return Err(Refused::after(Refusal::Truncated, s.items));
         }
         if Head::of(board[place]).kind == Head::CLOSING {
             return close(board, s);
         }
         // 1 oversize: a word after the last item that may be
         if s.items == Limit::ITEMS {
-            return refused(Refusal::TooLarge, s.items);
+            return Err(Refused::after(Refusal::TooLarge, s.items));
         }
         match look_at(board, format, place, &mut known) {
-            Err(refusal) => return refused(refusal, s.items),
+            Err(refusal) => return Err(Refused::after(refusal, s.items)),
             Ok(seen) => {
                 s = Heads {
                     items: s.items + 1,

@@ -1,7 +1,8 @@
 // The refusals, by what is wrong. Each comment gives the paper's number and word.
 #![tactic(auto)]
 
-ghost use Rattle.std.specs.Prelude.{◌≡◌};
+ghost use Rattle.std.specs.Prelude.{◌≡◌, ◌≤◌};
+ghost use Rattle.model.specs.Audit.{item_limit};
 ghost use Rattle.refusal.specs.Number.{number_of};
 
 #[derive(Clone, Copy, PartialEq, Eq)]
@@ -58,6 +59,19 @@ pub enum Refusal {
 pub struct Refused {
     pub refusal: Refusal,
     pub items: u32,
+}
+
+impl Refused {
+    // A refusal after so many items.
+    pub fn after(refusal: Refusal, items: usize) -> Refused
+        requires { items ≤ item_limit }
+        ensures { result ≡ record { refusal = refusal; items = items } }
+    {
+        Refused {
+            refusal,
+            items: items as u32,
+        }
+    }
 }
 
 // The paper's number of a refusal.

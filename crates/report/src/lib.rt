@@ -36,8 +36,5 @@ pub fn refused(refusal: Refusal, items: usize) -> Report
     requires { items ≤ item_limit }
     ensures { (board : List ℕ) → reported result ≡ report_of (format_of board) (model.refused (number_of refusal) items) }
 {
-    Err(Refused {
-        refusal,
-        items: items as u32,
-    })
+    Err(Refused::after(refusal, items))
 }

@@ -6,8 +6,8 @@ use Rattle.ancestry.proofs.Answering.{none-zero, none-past, some-asked}
 use Rattle.ancestry.proofs.list_accepted.Goals as goal
 use Rattle.ancestry.proofs.list_accepted.Goals.{then-number-eq0-via-then-number-eq0, then-number-eq0-via-else-number-eq0+then-count-number}
 
-pub overflow_cast-result : goal.overflow_cast-result
-overflow_cast-result c = let few = (kept-had c.args.passed.now.kept).few in omega arith
+pub after-requires : goal.after-requires
+after-requires c = (kept-had c.args.passed.now.kept).few
 
 pub returns-then-number-eq0 : goal.returns-then-number-eq0
 returns-then-number-eq0 c =
@@ -15,14 +15,14 @@ returns-then-number-eq0 c =
     elim c.then-number-eq0.branch [
       | then-number-eq0-via-then-number-eq0 w ↦
           let after = none-zero p.board.now p.count c.args.number c.args.list.now c.requires.1 w.if-number-eq0.true in
-          record { answer = after.0; list = after.1 }
+          record { answer = rw c.after.ensures after.0; list = after.1 }
       | then-number-eq0-via-else-number-eq0+then-count-number w ↦
           let after = none-past p.board.now p.count c.args.number c.args.list.now c.requires.1 w.if-count-number.true in
-          record { answer = after.0; list = after.1 }
+          record { answer = rw c.after.ensures after.0; list = after.1 }
     ]
 
-pub overflow_cast-result-2 : goal.overflow_cast-result-2
-overflow_cast-result-2 c =
+pub overflow_cast-result : goal.overflow_cast-result
+overflow_cast-result c =
     let kept = kept-had c.args.passed.now.kept in
     let few = ancestry-few {number = c.args.number} kept (omega arith) c.if-count-number.false in
     omega (arith, kept.few, few, c.climb.ensures.answer)

@@ -9,8 +9,8 @@ use Rattle.compare.proofs.compare_accepted.Goals.{then-number-eq0-via-then-numbe
 pub returns-then-number-eq0 : goal.returns-then-number-eq0
 returns-then-number-eq0 c =
     elim c.then-number-eq0.branch [
-      | then-number-eq0-via-then-number-eq0 w ↦ none-zero _ _ _ _ _ c.args.later.now.counted w.if-number-eq0.true
-      | then-number-eq0-via-else-number-eq0+then-later-number w ↦ none-past _ _ _ _ _ c.args.later.now.counted w.if-later-number.true
+      | then-number-eq0-via-then-number-eq0 w ↦ rw c.after.ensures (none-zero _ _ _ _ _ c.args.later.now.counted w.if-number-eq0.true)
+      | then-number-eq0-via-else-number-eq0+then-later-number w ↦ rw c.after.ensures (none-past _ _ _ _ _ c.args.later.now.counted w.if-later-number.true)
     ]
 
 pub compare-requires : goal.compare-requires

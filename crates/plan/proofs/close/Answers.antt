@@ -1,5 +1,6 @@
 -- `close` meets its contract. Assumes nothing.
-use Rattle.plan.proofs.Reading.{close-bad, close-good}
+use Rattle.std.specs.Prelude.{Err}
+use Rattle.plan.proofs.Reading.{refused-plan, close-bad, close-good}
 use mathlib.Core.Path.{ap}
 use mathlib.Core.Bool.{not}
 use Rattle.plan.proofs.close.Goals as goal
@@ -7,7 +8,7 @@ use Rattle.plan.proofs.close.Goals as goal
 pub returns-then-not-is_closed : goal.returns-then-not-is_closed
 returns-then-not-is_closed c =
     let x = c.args in
-    close-bad x.board.now x.s c.is_closed.ensures (ap not c.if-not-is_closed.true) c.refused.result (c.refused.ensures x.board.now)
+    close-bad x.board.now x.s c.is_closed.ensures (ap not c.if-not-is_closed.true) (Err c.after.result) (refused-plan x.board.now c.after.ensures)
 
 pub returns : goal.returns
 returns c =

@@ -1,19 +1,20 @@
 -- `read` meets its contract. The invariant: the heads before the place are read, and the plan is what is read from there on. Assumes nothing.
 use native.Mathlib.Omega.{arith}
 use Rattle.plan.proofs.Words.{known_start, known-after}
-use Rattle.plan.proofs.Reading.{going_start, stop-ended, stop-closing, stop-full, stop-refused, going_on, blocks-within}
+use Rattle.std.specs.Prelude.{Err}
+use Rattle.plan.proofs.Reading.{refused-plan, going_start, stop-ended, stop-closing, stop-full, stop-refused, going_on, blocks-within}
 use Rattle.plan.proofs.read.Goals as goal
 
 pub loop-format-init : goal.loop-format-init
 loop-format-init c = (going_start c.args.board.now c.requires.0 c.requires.1, known_start c.args.board.now)
 
-pub refused-requires : goal.refused-requires
-refused-requires c = c.loop-format.invariant.0.read.few
+pub after-requires : goal.after-requires
+after-requires c = c.loop-format.invariant.0.read.few
 
 pub returns-then-board-place : goal.returns-then-board-place
 returns-then-board-place c =
     let board = c.args.board.now in
-    stop-ended board c.loop-format.invariant.0 c.if-board-place.true c.refused.result (c.refused.ensures board)
+    stop-ended board c.loop-format.invariant.0 c.if-board-place.true (Err c.after.result) (refused-plan board c.after.ensures)
 
 pub close-requires : goal.close-requires
 close-requires c = (c.loop-format.invariant.0.read, c.if-board-place.false, c.requires.0)
@@ -23,14 +24,14 @@ returns-then-of-eq-CLOSING c =
     stop-closing c.args.board.now c.loop-format.invariant.0 c.if-board-place.false c.of.ensures c.if-of-eq-CLOSING.true
     c.close.result c.close.ensures
 
-pub refused-requires-then-s-eq-ITEMS : goal.refused-requires-then-s-eq-ITEMS
-refused-requires-then-s-eq-ITEMS c = c.loop-format.invariant.0.read.few
+pub after-requires-then-s-eq-ITEMS : goal.after-requires-then-s-eq-ITEMS
+after-requires-then-s-eq-ITEMS c = c.loop-format.invariant.0.read.few
 
 pub returns-then-s-eq-ITEMS : goal.returns-then-s-eq-ITEMS
 returns-then-s-eq-ITEMS c =
     let board = c.args.board.now in
     stop-full board c.loop-format.invariant.0 c.if-board-place.false c.of.ensures c.if-of-eq-CLOSING.false c.if-s-eq-ITEMS.true
-    c.refused-then-s-eq-ITEMS.result (c.refused-then-s-eq-ITEMS.ensures board)
+    (Err c.after-then-s-eq-ITEMS.result) (refused-plan board c.after-then-s-eq-ITEMS.ensures)
 
 pub look_at-requires : goal.look_at-requires
 look_at-requires c =
@@ -39,8 +40,8 @@ look_at-requires c =
       format_value = (c.of-format.ensures, c.loop-format.invariant.1);
     }
 
-pub refused-requires-in-Err : goal.refused-requires-in-Err
-refused-requires-in-Err c = c.loop-format.invariant.0.read.few
+pub after-requires-in-Err : goal.after-requires-in-Err
+after-requires-in-Err c = c.loop-format.invariant.0.read.few
 
 pub returns-in-Err : goal.returns-in-Err
 returns-in-Err c =
@@ -49,7 +50,7 @@ returns-in-Err c =
     let few = g.read.few in
     let more = c.if-s-eq-ITEMS.false in
     stop-refused board g c.if-board-place.false c.of.ensures c.if-of-eq-CLOSING.false (omega arith)
-    c.look_at.ensures.answer _ c.in-Err.is c.refused-in-Err.result (c.refused-in-Err.ensures board)
+    c.look_at.ensures.answer _ c.in-Err.is (Err c.after-in-Err.result) (refused-plan board c.after-in-Err.ensures)
 
 pub overflow_add-s : goal.overflow_add-s
 overflow_add-s c = let few = c.loop-format.invariant.0.read.few in omega arith
