@@ -13,37 +13,23 @@ mod only;
 mod phase;
 
 // 11 out of phase.
+#[tactic(auto, unfolding(model::specs::Phase::phase_ok))]
 pub fn phase_ok(next: &Candidate, sessions: &[u32]) -> bool
     requires { sessions.now ≡ session_chain next.now.board.now next.now.state.items }
     ensures { result ≡ phase_ok (history_before next.now) (item_at next.now) }
 {
-    if !phase::extraction_ok(next) {
-        return false;
-    }
-    if !phase::open_ok(next) {
-        return false;
-    }
-    if !phase::standing_ok(next) {
-        return false;
-    }
-    if !phase::latest_ok(next, sessions) {
-        return false;
-    }
-    if !phase::intent_ok(next) {
-        return false;
-    }
-    phase::spoiled_ok(next)
+    phase::extraction_ok(next)
+        && phase::open_ok(next)
+        && phase::standing_ok(next)
+        && phase::latest_ok(next, sessions)
+        && phase::intent_ok(next)
+        && phase::spoiled_ok(next)
 }
 
 // 12 second.
+#[tactic(auto, unfolding(model::specs::Only::only_ok))]
 pub fn only_ok(next: &Candidate) -> bool
     ensures { result ≡ only_ok (history_before next.now) (item_at next.now) }
 {
-    if !only::on_board_ok(next) {
-        return false;
-    }
-    if !only::under_parent_ok(next) {
-        return false;
-    }
-    only::under_ballot_ok(next)
+    only::on_board_ok(next) && only::under_parent_ok(next) && only::under_ballot_ok(next)
 }

@@ -12,14 +12,11 @@ use state::candidate::Candidate;
 pub fn on_board_ok(next: &Candidate) -> bool
     ensures { result ≡ on_board_ok (history_before next.now) (item_at next.now) }
 {
-    let code = next.known.item.head.code;
-    if code == Head::GENESIS {
-        return next.state.items == 0;
+    match next.known.item.head.code {
+        Head::GENESIS => next.state.items == 0,
+        Head::THRESHOLD => next.state.threshold == 0,
+        _ => true,
     }
-    if code == Head::THRESHOLD {
-        return next.state.threshold == 0;
-    }
-    true
 }
 
 // "Types 18, 19, 33, 34 and 48 to 51: one under a parent."
@@ -45,11 +42,7 @@ pub fn under_ballot_ok(next: &Candidate) -> bool
 fn is_single(code: u32) -> bool
     ensures { result ≡ (between 18 19 code || between 33 34 code || between 48 51 code) }
 {
-    if head::is_between(Head::SERVER_COMMITMENT, Head::BALLOT, code) {
-        return true;
-    }
-    if head::is_between(Head::EXTRACTION, Head::CONFIRMATION, code) {
-        return true;
-    }
-    head::is_between(Head::TRACK, Head::SERVER_OPENING, code)
+    head::is_between(Head::SERVER_COMMITMENT, Head::BALLOT, code)
+        || head::is_between(Head::EXTRACTION, Head::CONFIRMATION, code)
+        || head::is_between(Head::TRACK, Head::SERVER_OPENING, code)
 }

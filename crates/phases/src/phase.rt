@@ -38,10 +38,8 @@ pub fn open_ok(next: &Candidate) -> bool
 pub fn standing_ok(next: &Candidate) -> bool
     ensures { result ≡ standing_ok (history_before next.now) (item_at next.now) }
 {
-    if next.known.item.head.code != Head::SESSION {
-        return true;
-    }
-    next.state.threshold != 0 && next.state.authorizer != 0
+    next.known.item.head.code != Head::SESSION
+        || (next.state.threshold != 0 && next.state.authorizer != 0)
 }
 
 // "Types 17 to 21 need their session to be the latest of its voter."
@@ -101,7 +99,8 @@ fn voter_of(next: &Candidate, session: usize) -> u32
     ensures { result ≡ session_voter (item_no (history_before next.now) session) }
 {
     if session == 0 {
-        return 0;
+        0
+    } else {
+        next.board[next.entry(session).item.content]
     }
-    next.board[next.entry(session).item.content]
 }

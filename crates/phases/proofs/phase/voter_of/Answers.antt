@@ -18,5 +18,5 @@ offset_bounds-next-entry c =
 pub bounds-next-entry : goal.bounds-next-entry
 bounds-next-entry c = voter-within (at-had c.args.next.now.at_item).kept c.requires c.if-session-eq0.false c.entry.ensures
 
-pub returns : goal.returns
-returns c = voter-is (at-had c.args.next.now.at_item).kept c.requires c.if-session-eq0.false c.entry.ensures
+pub returns-else-session-eq0 : goal.returns-else-session-eq0
+returns-else-session-eq0 c = voter-is (at-had c.args.next.now.at_item).kept c.requires c.if-session-eq0.false c.entry.ensures
