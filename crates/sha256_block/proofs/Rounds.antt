@@ -7,7 +7,7 @@ use Rattle.sha256_block.specs.Equations.{sha256_functions}
 
 -- ---- the equations of 6.2.2 are those of sha2
 
-schedule-same : (M : List ℕ) (t : ℕ) → sha2.schedule sha256_functions M t ≡ schedule M t
+pub schedule-same : (M : List ℕ) (t : ℕ) → sha2.schedule sha256_functions M t ≡ schedule M t
 unfolding schedule sha2.schedule message_word sha2.message_word
 schedule-same M zero = refl
 schedule-same M (suc t) = ap (λ (W : List ℕ). W ++ (message_word M W t ∷ [])) (schedule-same M t)
@@ -17,15 +17,10 @@ unfolding rounds sha2.rounds round sha2.round t1 sha2.t1 t2 sha2.t2
 rounds-same W v zero = refl
 rounds-same W v (suc t) = ap (λ (u : Working). round u (get_or K t 0) (get_or W t 0)) (rounds-same W v t)
 
--- what the code gives is what the standard says
-pub schedule-made : (M : List ℕ) {w : List ℕ} → w ≡ sha2.schedule sha256_functions M 64 → w ≡ schedule M 64
-schedule-made M e = e ∙ schedule-same M 64
-
-pub compress-made : (H M : List ℕ) {r : List ℕ} → r ≡ sha2.compress sha256_functions 64 H M → r ≡ compress H M
+pub compress-same : (H M : List ℕ) → sha2.compress sha256_functions 64 H M ≡ compress H M
 unfolding compress sha2.compress intermediate sha2.intermediate
-compress-made H M e =
-    e
-    ∙ ap (λ (W : List ℕ). intermediate H (sha2.rounds sha256_functions W (initialize H) 64)) (schedule-same M 64)
+compress-same H M =
+    ap (λ (W : List ℕ). intermediate H (sha2.rounds sha256_functions W (initialize H) 64)) (schedule-same M 64)
     ∙ ap (intermediate H) (rounds-same (schedule M 64) (initialize H) 64)
 
 -- ---- the message schedule

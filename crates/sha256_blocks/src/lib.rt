@@ -4,6 +4,8 @@
 ghost use Rattle.std.specs.Prelude.{◌≡◌};
 ghost use Rattle.sha256_blocks.specs.Blocks.{hash_over};
 
+use sha256_block::functions::Sha256;
+
 // The hash value h after the whole blocks of s, each read where it stands. The constants and the room for the schedule are
 // made once for all of them.
 pub fn compress_blocks(h: [u32; 8], s: &[u32]) -> [u32; 8]
@@ -11,13 +13,5 @@ pub fn compress_blocks(h: [u32; 8], s: &[u32]) -> [u32; 8]
 {
     let k = sha256_block::K;
     let mut w = [0u32; 64];
-    let mut r = h;
-    let mut i: usize = 0;
-    while s.len() - i >= 16 {
-        let end = i + 16;
-        let next = sha256_block::compress(r, &s[i..end], &k, &mut w);
-        r = next;
-        i = end;
-    }
-    r
+    sha2_common::message::compress_blocks::<Sha256, 64, 16>(h, s, &k, &mut w)
 }

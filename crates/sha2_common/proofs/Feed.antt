@@ -4,26 +4,17 @@ use mathlib.Core.Logic.{⊎_elim}
 use Prim.Native.Nat.{ℕ, ◌+◌, ◌-◌, ◌%◌, ◌≤◌, ◌<◌}
 use mathlib.Core.List.{List, [], ◌++◌, append_assoc}
 use native.Mathlib.Nat.{le_refl, le_of_eq, eq-or-lt_of_le, le_of_lt}
-use native.Mathlib.Numerals.{add-one}
 use native.Mathlib.Omega.{arith}
-use lib.ListN.{length, get_or, take, drop, set, length-append, length-drop, drop_of_length-le, take-append-drop}
+use lib.ListN.{length, take, drop, length-append, length-drop, drop_of_length-le, take-append-drop}
 use lib.Seq.{length-take-le, take-add, take_all, take-length}
-use lib.Seq.{paste, paste-zero, paste-suc, take-paste, length-paste}
-use Rattle.sha2_common.specs.Blocks.{HashFunction, hash_over}
-use Rattle.sha2_common.specs.State.{Running, stored, missing, whole_end, block_after, pending, fed}
+use lib.Seq.{paste-zero, take-paste, length-paste}
+use Rattle.sha2_common.specs.Blocks.{HashOn, hash_over}
+use Rattle.sha2_common.specs.State.{RunningOn, stored, missing, whole_end, block_after, pending, fed}
 use Rattle.sha2_common.proofs.Places.{Sized, rest-short, whole-add, missing-fits, missing-ends, missing-none}
 use Rattle.sha2_common.proofs.Places.{left-all, left-none, none_left, left-within, left-rest, between-whole}
 use Rattle.sha2_common.proofs.Blocks.{length_part, hash_over-append, hash_over-few}
 
--- ---- a copy, word by word
-
-pub paste-next : (b : List ℕ) (at : ℕ) (xs : List ℕ) (i : ℕ) (l : List ℕ) → at + i < length b → i < length xs → l ≡ paste b at xs i
-    → set l (at + i) (get_or xs i 0) ≡ paste b at xs (i + 1)
-paste-next b at xs i l p q e =
-    ap (λ (k : List ℕ). set k (at + i) (get_or xs i 0)) e ∙ paste-suc b at xs i 0 p q ∙ ap (paste b at xs) (sym (add-one i))
-
-pub paste-end : (b : List ℕ) (at : ℕ) (xs : List ℕ) (i : ℕ) {l : List ℕ} → i ≡ length xs → l ≡ paste b at xs i → l ≡ stored b at xs
-paste-end b at xs i n e = e ∙ ap (paste b at xs) n
+-- ---- words stored
 
 pub length-stored : (b : List ℕ) (at : ℕ) (xs : List ℕ) → at + length xs ≤ length b → length (stored b at xs) ≡ length b
 length-stored b at xs p = length-paste b at xs (length xs) p (le_refl (length xs))
@@ -54,14 +45,14 @@ three-parts xs i e p = ap₂ (λ (a b : List ℕ). a ++ b) (take_more xs i e p) 
 
 -- ---- the running hash
 
-same-running : {c c' b b' : List ℕ} {n n' : ℕ} → c ≡ c' → b ≡ b' → n ≡ n'
-    → ◌≡◌ {A = Running} (record { chain = c; block = b; count = n }) (record { chain = c'; block = b'; count = n' })
+same-running : {W : Type 0} {c c' : List W} {b b' : List ℕ} {n n' : ℕ} → c ≡ c' → b ≡ b' → n ≡ n'
+    → ◌≡◌ {A = RunningOn W} (record { chain = c; block = b; count = n }) (record { chain = c'; block = b'; count = n' })
 same-running p q r = λ i. record { chain = p i; block = q i; count = r i }
 
-module _ (f : HashFunction) where
-  pub fed-count : (s : Running) (xs : List ℕ) {r : Running} → r ≡ fed f s xs → r.count ≡ s.count + length xs
+module _ {W : Type 0} (f : HashOn W) where
+  pub fed-count : (s : RunningOn W) (xs : List ℕ) {r : RunningOn W} → r ≡ fed f s xs → r.count ≡ s.count + length xs
   unfolding fed
-  fed-count s xs e = ap (λ (h : Running). h.count) e
+  fed-count s xs e = ap (λ (h : RunningOn W). h.count) e
 
   -- ---- a piece in three parts: words that fill the block up, whole blocks, words left over
 
@@ -74,7 +65,7 @@ module _ (f : HashFunction) where
   abbrev pub last_part : ℕ → List ℕ → List ℕ
   last_part k xs = take (length xs - whole_end f.size k (length xs)) (drop (whole_end f.size k (length xs)) xs)
 
-module _ (f : HashFunction) (z : Sized f) where
+module _ {W : Type 0} (f : HashOn W) (z : Sized f) where
   -- ---- block_after
 
   -- words that do not go beyond the block, and are no block of their own
@@ -108,7 +99,7 @@ module _ (f : HashFunction) (z : Sized f) where
 
   -- ---- fed
 
-  module _ (s : Running) (xs : List ℕ) (sized : length s.block ≡ f.size) where
+  module _ (s : RunningOn W) (xs : List ℕ) (sized : length s.block ≡ f.size) where
     within : s.count % f.size ≤ length s.block
     within = rw sized (le_of_lt (rest-short f.size z s.count))
 
@@ -122,7 +113,7 @@ module _ (f : HashFunction) (z : Sized f) where
     module _ (b : List ℕ) (few : length xs < f.size) (put : b ≡ stored s.block (s.count % f.size) xs) where
       -- they do not fill it
       pub fed-room : s.count % f.size + length xs ≤ f.size → (s.count % f.size + length xs ≡ f.size → ⊥)
-          → ◌≡◌ {A = Running} (record { chain = s.chain; block = b; count = s.count + length xs }) (fed f s xs)
+          → ◌≡◌ {A = RunningOn W} (record { chain = s.chain; block = b; count = s.count + length xs }) (fed f s xs)
       unfolding fed
       fed-room p q =
           let n = length-behind in
@@ -130,8 +121,8 @@ module _ (f : HashFunction) (z : Sized f) where
           (put ∙ block_after-fill s.block s.count xs p few) refl
 
       -- they do
-      pub fed-full : s.count % f.size + length xs ≡ f.size → {r : List ℕ} → r ≡ hash_over f s.chain b
-          → ◌≡◌ {A = Running} (record { chain = r; block = b; count = s.count + length xs }) (fed f s xs)
+      pub fed-full : s.count % f.size + length xs ≡ f.size → {r : List W} → r ≡ hash_over f s.chain b
+          → ◌≡◌ {A = RunningOn W} (record { chain = r; block = b; count = s.count + length xs }) (fed f s xs)
       unfolding fed
       fed-full p e =
           let l = length-stored s.block (s.count % f.size) xs (le_of_eq (p ∙ sym sized)) ∙ sized in
@@ -141,9 +132,9 @@ module _ (f : HashFunction) (z : Sized f) where
           (put ∙ block_after-fill s.block s.count xs (le_of_eq p) few) refl
 
   -- whole blocks, where the block is empty
-  pub fed-blocks : (s : Running) (xs : List ℕ) {r : List ℕ} → s.count % f.size ≡ 0 → length xs % f.size ≡ 0
+  pub fed-blocks : (s : RunningOn W) (xs : List ℕ) {r : List W} → s.count % f.size ≡ 0 → length xs % f.size ≡ 0
       → r ≡ hash_over f s.chain xs
-      → ◌≡◌ {A = Running} (record { chain = r; block = s.block; count = s.count + length xs }) (fed f s xs)
+      → ◌≡◌ {A = RunningOn W} (record { chain = r; block = s.block; count = s.count + length xs }) (fed f s xs)
   unfolding fed
   fed-blocks s xs p q e =
       same-running
@@ -203,14 +194,14 @@ module _ (f : HashFunction) (z : Sized f) where
         omega (arith, n, w, l, ends)
 
   -- whole blocks behind whole blocks, and words behind them
-  hash_over-parts : (H P a b c : List ℕ) → length (P ++ a) % f.size ≡ 0 → length b % f.size ≡ 0
+  hash_over-parts : (H : List W) (P a b c : List ℕ) → length (P ++ a) % f.size ≡ 0 → length b % f.size ≡ 0
       → hash_over f (hash_over f (hash_over f H (P ++ a)) b) c ≡ hash_over f H (P ++ (a ++ b ++ c))
   hash_over-parts H P a b c p q =
       let n = ap (λ (j : ℕ). j % f.size) (length-append (P ++ a) b) ∙ whole-add f.size z (length (P ++ a)) (length b) p q in
-      ap (λ (G : List ℕ). hash_over f G c) (sym (hash_over-append f z H (P ++ a) b p)) ∙ sym (hash_over-append f z H (P ++ a ++ b) c n)
+      ap (λ (G : List W). hash_over f G c) (sym (hash_over-append f z H (P ++ a) b p)) ∙ sym (hash_over-append f z H (P ++ a ++ b) c n)
       ∙ ap (hash_over f H) (ap (λ (l : List ℕ). l ++ c) (append_assoc P a b) ∙ append_assoc P (a ++ b) c)
 
-  module _ (s : Running) (xs : List ℕ) (sized : length s.block ≡ f.size) (p : missing f.size s.count ≤ length xs) where
+  module _ (s : RunningOn W) (xs : List ℕ) (sized : length s.block ≡ f.size) (p : missing f.size s.count ≤ length xs) where
     fed-parts : fed f (fed f (fed f s (first_part f s.count xs)) (whole_part f s.count xs)) (last_part f s.count xs) ≡ fed f s xs
     unfolding fed block_after
     fed-parts =
@@ -239,9 +230,9 @@ module _ (f : HashFunction) (z : Sized f) where
         (last-all k xs p refl refl)
 
     -- the calls, one after the other
-    pub fed-three : {t u r : Running} → t ≡ fed f s (first_part f s.count xs) → u ≡ fed f t (whole_part f s.count xs)
+    pub fed-three : {t u r : RunningOn W} → t ≡ fed f s (first_part f s.count xs) → u ≡ fed f t (whole_part f s.count xs)
         → r ≡ fed f u (last_part f s.count xs) → r ≡ fed f s xs
     fed-three e g h =
         h
-        ∙ ap (λ (r : Running). fed f r (last_part f s.count xs)) (g ∙ ap (λ (r : Running). fed f r (whole_part f s.count xs)) e)
+        ∙ ap (λ (r : RunningOn W). fed f r (last_part f s.count xs)) (g ∙ ap (λ (r : RunningOn W). fed f r (whole_part f s.count xs)) e)
         ∙ fed-parts

@@ -7,14 +7,14 @@ use native.Mathlib.Nat.{zero-add, zero-div, zero-mod, le_of_lt}
 use native.Mathlib.Omega.{arith}
 use lib.ListN.{length, take, drop, replicate, length-append, length-drop, length-replicate}
 use lib.Seq.{length-take-le, drop-append-le, drop-append-add, drop-drop, drop-nil}
-use Rattle.sha2_common.specs.Blocks.{HashFunction, hash_from, hash_over}
-use Rattle.sha2_common.specs.State.{Running, stored, missing, whole_end, block_after, fresh, pending, fed, ended, Holds}
+use Rattle.sha2_common.specs.Blocks.{HashOn, hash_from, hash_over}
+use Rattle.sha2_common.specs.State.{RunningOn, stored, missing, whole_end, block_after, fresh, pending, fed, ended, Holds}
 use Rattle.sha2_common.proofs.Places.{Sized, rest-short, blocks-within, blocks-behind, words-behind}
 use Rattle.sha2_common.proofs.Places.{filling, missing-fits, room, left-whole, left-rest}
 use Rattle.sha2_common.proofs.Blocks.{hash_from-on, hash_from-front}
 use Rattle.sha2_common.proofs.Feed.{length-stored, take-stored, block_after-fill}
 
-module _ (f : HashFunction) (z : Sized f) where
+module _ {W : Type 0} (f : HashOn W) (z : Sized f) where
   -- ---- the block after a piece begins with the words that are not hashed yet
 
   module _ (b : List ℕ) (k : ℕ) (xs : List ℕ) (sized : length b ≡ f.size) where
@@ -73,7 +73,7 @@ module _ (f : HashFunction) (z : Sized f) where
 
   -- ---- Holds, from H(0) on
 
-  module _ (start : List ℕ) where
+  module _ (start : List W) where
     pub holds-fresh : Holds f start (fresh f start) []
     unfolding fresh hash_from
     holds-fresh = record {
@@ -83,7 +83,7 @@ module _ (f : HashFunction) (z : Sized f) where
       filled = ap (λ (k : ℕ). take k (replicate f.size 0)) (zero-mod f.size) ∙ sym (drop-nil (0 / f.size * f.size));
     }
 
-    module _ (s : Running) (m : List ℕ) (xs : List ℕ) (g : Holds f start s m) where
+    module _ (s : RunningOn W) (m : List ℕ) (xs : List ℕ) (g : Holds f start s m) where
       -- what is pending and xs are the words behind the whole blocks of m
       behind : pending f s ++ xs ≡ drop (length m / f.size * f.size) (m ++ xs)
       behind =
@@ -95,7 +95,7 @@ module _ (f : HashFunction) (z : Sized f) where
       over =
           let q = length m / f.size in
           let l = ap length behind ∙ length-drop (q * f.size) (m ++ xs) ∙ ap (λ (n : ℕ). n - q * f.size) (length-append m xs) in
-          ap₂ (λ (H w : List ℕ). hash_from f H w (length (pending f s ++ xs) / f.size))
+          ap₂ (λ (H : List W) (w : List ℕ). hash_from f H w (length (pending f s ++ xs) / f.size))
           (g.chained ∙ sym (hash_from-front f start m xs q (blocks-within f.size z (length m)))) behind
           ∙ sym (hash_from-on f start (m ++ xs) q (length (pending f s ++ xs) / f.size))
           ∙ ap (hash_from f start (m ++ xs))
@@ -120,11 +120,11 @@ module _ (f : HashFunction) (z : Sized f) where
           }
 
     -- words fed
-    pub holds-fed : {s r : Running} {m : List ℕ} (xs : List ℕ) → Holds f start s m → r ≡ fed f s xs → Holds f start r (m ++ xs)
-    holds-fed {s} {m = m} xs g e = subst (λ (t : Running). Holds f start t (m ++ xs)) (sym e) (holds_more s m xs g)
+    pub holds-fed : {s r : RunningOn W} {m : List ℕ} (xs : List ℕ) → Holds f start s m → r ≡ fed f s xs → Holds f start r (m ++ xs)
+    holds-fed {s} {m = m} xs g e = subst (λ (t : RunningOn W). Holds f start t (m ++ xs)) (sym e) (holds_more s m xs g)
 
     -- the hash value in the end
-    pub ended_held : {s : Running} {m : List ℕ} → Holds f start s m → ended f s ≡ hash_over f start (m ++ f.padding (length m))
+    pub ended_held : {s : RunningOn W} {m : List ℕ} → Holds f start s m → ended f s ≡ hash_over f start (m ++ f.padding (length m))
     unfolding ended
     ended_held {s} {m} g =
         over s m (f.padding s.count) g ∙ ap (λ (k : ℕ). hash_over f start (m ++ f.padding k)) g.counted

@@ -5,11 +5,11 @@ use mathlib.Core.List.{List, ◌++◌, append_assoc}
 use native.Mathlib.Nat.{add_assoc}
 use lib.ListN.{length, take, drop, length-append}
 use lib.Seq.{take-append-le, drop-append-add}
-use Rattle.sha2_common.specs.Blocks.{HashFunction}
+use Rattle.sha2_common.specs.Blocks.{HashOn}
 use Rattle.sha2_common.specs.State.{stored, missing, whole_end, block_after}
 use Rattle.sha2_common.proofs.Places.{Sized, whole-add, left_behind}
 
-module _ (f : HashFunction) (z : Sized f) where
+module _ {W : Type 0} (f : HashOn W) (z : Sized f) where
   -- behind words xs that fill the block up, the words left over are those of the rest of the piece
   left_over : (k : ℕ) (xs zs : List ℕ) → (k + length xs) % f.size ≡ 0
       → drop (whole_end f.size k (length (xs ++ zs))) (xs ++ zs) ≡ drop (length zs / f.size * f.size) zs

@@ -1,17 +1,14 @@
 -- Places in blocks of s words: arithmetic with / and % by s, for the two sizes that a block has.
-use mathlib.Core.Path.{◌≡◌, sym, subst}
+use mathlib.Core.Path.{◌≡◌, refl, sym, subst}
 use mathlib.Core.Logic.{◌⊎◌, inl, inr, ⊎_elim}
-use Prim.Native.Nat.{ℕ, suc, ◌+◌, ◌-◌, ◌*◌, ◌/◌, ◌%◌, ◌≤◌, ◌<◌}
+use Prim.Native.Nat.{ℕ, ◌+◌, ◌-◌, ◌*◌, ◌/◌, ◌%◌, ◌≤◌, ◌<◌}
 use native.Mathlib.Nat.{eq-or-lt_of_le}
 use native.Mathlib.Omega.{arith}
-use Rattle.sha2_common.specs.Blocks.{HashFunction}
+use Rattle.sha2_common.specs.Blocks.{HashOn}
+use Rattle.sha2_common.specs.Sizes.{IsSize}
 use Rattle.sha2_common.specs.State.{missing, whole_end}
 
--- a block has 512 bits, as in SHA-256, or 1024, as in SHA-384 and SHA-512 (FIPS 180-4, 1, figure 1): 16 or 32 words
-abbrev pub IsSize : ℕ → Type 0
-IsSize s = (s ≡ 16) ⊎ (s ≡ 32)
-
-abbrev pub Sized : HashFunction → Type 0
+abbrev pub Sized : {W : Type 0} → HashOn W → Type 0
 Sized f = IsSize f.size
 
 -- `omega` divides by a literal alone, so each law is shown at 16 and at 32
@@ -27,6 +24,12 @@ by_size P a b s (inr e) = subst P (sym e) b
 pub rest-short : Each λ s. (n : ℕ) → n % s < s
 rest-short = by_size _ (λ n. omega arith) (λ n. omega arith)
 
+pub size-whole : Each λ s. s % s ≡ 0
+size-whole = by_size _ refl refl
+
+pub size-one : Each λ s. s / s ≡ 1
+size-one = by_size _ refl refl
+
 pub blocks-within : Each λ s. (n : ℕ) → n / s * s ≤ n
 blocks-within = by_size _ (λ n. omega arith) (λ n. omega arith)
 
@@ -41,13 +44,6 @@ whole-add = by_size _ (λ n m p q. omega arith) (λ n m p q. omega arith)
 
 pub blocks-add : Each λ s. (n m : ℕ) → n % s ≡ 0 → (n + m) / s ≡ n / s + m / s
 blocks-add = by_size _ (λ n m p. omega arith) (λ n m p. omega arith)
-
-pub blocks-suc : Each λ s. (n : ℕ) → (n + s) / s ≡ suc (n / s)
-blocks-suc = by_size _ (λ n. omega arith) (λ n. omega arith)
-
--- less than a block lies behind n words
-pub blocks_end : Each λ s. (n m : ℕ) → n ≤ m → m - n < s → n % s ≡ 0 → n / s ≡ m / s
-blocks_end = by_size _ (λ n m p q e. omega arith) (λ n m p q e. omega arith)
 
 -- the blocks of all are those of n words, and those of what is behind them
 pub blocks-behind : Each λ s. (n m l : ℕ) → l ≡ n + m - n / s * s → n / s + l / s ≡ (n + m) / s

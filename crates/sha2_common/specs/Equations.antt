@@ -3,8 +3,9 @@
 use Rattle.std.specs.Prelude.{ℕ, zero, suc, ◌-◌, cond, List, [], ◌∷◌, ◌++◌, nat_lt, slice_index_or}
 use Rattle.sha2_common.specs.declared.compression.Working.{Working}
 
--- what the equations are over: addition modulo 2 ^ w (3.2), the functions of 4.1, the constants of 4.2, and how the words of 32 bits of a
--- block make the 16 words of the standard's. `none` is the word 0, which stands for a word past the end of a list
+-- what the equations are over: addition modulo 2 ^ w (3.2), the functions of 4.1, the constants of 4.2, how many words of 32
+-- bits a block has and how they make its 16 words, and what follows a message of n of them (5.1). `none` is the word 0, which stands for a
+-- word past the end of a list
 pub record Functions (W : Type 0) : Type 0 where
   pub none : W
   pub sum : W → W → W
@@ -17,6 +18,7 @@ pub record Functions (W : Type 0) : Type 0 where
   pub constants : List W
   pub size : ℕ
   pub words : List ℕ → List W
+  pub padding : ℕ → List ℕ
 
 module _ {W : Type 0} (f : Functions W) where
   abbrev pub word_at : List W → ℕ → W

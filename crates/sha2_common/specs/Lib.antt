@@ -1,4 +1,5 @@
 pub mod Words
+pub mod Sizes
 pub mod Equations
 pub mod Blocks
 pub mod State

@@ -2,6 +2,7 @@
 #![tactic(auto)]
 
 pub mod compression;
+pub mod message;
 
 ghost use Rattle.std.specs.Prelude.{◌≡◌, ◌+◌, ◌≤◌, length};
 ghost use Rattle.sha2_common.specs.State.{stored};
@@ -11,9 +12,5 @@ pub fn store(b: &mut [u32], at: usize, s: &[u32])
     requires { at + length s.now ≤ length b.old }
     ensures { b.new ≡ stored b.old at s.now }
 {
-    let mut i: usize = 0;
-    while i < s.len() {
-        b[at + i] = s[i];
-        i += 1;
-    }
+    b[at..at + s.len()].copy_from_slice(s);
 }

@@ -3,8 +3,11 @@
 
 ghost use Rattle.std.specs.Prelude.{◌≡◌, ◌+◌, ◌/◌, ◌%◌, ◌^◌, ◌<◌, ◌≤◌, length, take, [], ◌∷◌, ◌++◌};
 ghost use Rattle.sha512_block.specs.Fips.{padding, hash_words, to_halves, sha384_words, sha512_words};
-ghost use Rattle.sha512_blocks.specs.Blocks.{hash_over};
+ghost use Rattle.sha512_blocks.specs.Blocks.{sha512_function, hash_over};
+ghost use Rattle.sha512_blocks.proofs.Blocks.{thirty_two};
 ghost use Rattle.sha512.specs.State.{fresh384, fresh512, fed, ended, digest384_of, digest512_of};
+
+use sha2_common::message::{Blocks, Running};
 
 // A running hash: the chaining words, the block that is not full yet in words of 32 bits, and the number of such words fed so far. Only
 // as many words of the block as that number modulo 32 mean something. SHA-384 and SHA-512 differ in where it begins and in what is taken
@@ -14,6 +17,22 @@ pub struct Hash {
     chain: [u64; 8],
     block: [u32; 32],
     count: usize,
+}
+
+impl Blocks<32> for Hash {
+    type Word = u64;
+
+    ghost step = { sha512_function.compress };
+
+    ghost padding = { sha512_function.padding };
+
+    ghost sized = { thirty_two };
+
+    fn compress_blocks(h: [u64; 8], s: &[u32]) -> [u64; 8]
+        ensures { result ≡ hash_over h s.now }
+    {
+        sha512_blocks::compress_blocks(h, s)
+    }
 }
 
 impl Hash {
@@ -39,66 +58,39 @@ impl Hash {
         }
     }
 
-    // Words that the block has room for, no block of their own: they are stored in it, and it is hashed where they fill it.
-    fn fill(mut self, s: &[u32]) -> Self
-        requires s_bound { (self.count % 32 + length s.now ≤ 32) × (length s.now < 32) }
-        requires s_bound_2 { self.count + length s.now < 2 ^ 64 }
-        ensures { result ≡ fed self s.now }
-    {
-        let at = self.count % 32;
-        let n = s.len();
-        let mut m = self.block;
-        sha2_common::store(&mut m, at, s);
-        self.block = m;
-        self.count += n;
-        if at + n == 32 {
-            let h = self.chain;
-            let next = sha512_blocks::compress_blocks(h, &m);
-            self.chain = next;
-        }
-        self
-    }
-
-    // Whole blocks, where the block in hand is empty: it stays as it is, and they are read where they stand in s.
-    fn blocks(mut self, s: &[u32]) -> Self
-        requires count_value { (self.count % 32 ≡ 0) × (length s.now % 32 ≡ 0) }
-        requires s_bound { self.count + length s.now < 2 ^ 64 }
-        ensures { result ≡ fed self s.now }
-    {
-        let h = self.chain;
-        let next = sha512_blocks::compress_blocks(h, s);
-        self.chain = next;
-        self.count += s.len();
-        self
-    }
-
-    // Feeds the words of a slice in order. Those that fill the block up and those left over behind the last whole block are
-    // stored in it; whole blocks between are read where they stand in s. Which memory is read, no contract can say; this one
-    // says that of the whole blocks no word is left in the block.
-    pub fn words(mut self, s: &[u32]) -> Self
+    // Feeds the words of a slice in order: whole blocks are read where they stand in s.
+    pub fn words(self, s: &[u32]) -> Self
         requires { self.count + length s.now < 2 ^ 64 }
         ensures { result ≡ fed self s.now }
     {
-        let missing = (32 - self.count % 32) % 32;
-        let n = s.len();
-        if n < missing {
-            return self.fill(s);
+        let Hash {
+            chain,
+            block,
+            count,
+        } = self;
+        let running = Running {
+            chain,
+            block,
+            count,
+        };
+        let Running {
+            chain,
+            block,
+            count,
+        } = running.words::<Hash>(s);
+        Hash {
+            chain,
+            block,
+            count,
         }
-        let end = missing + (n - missing) / 32 * 32;
-        self = self.fill(&s[..missing]);
-        self = self.blocks(&s[missing..end]);
-        self = self.fill(&s[end..]);
-        self
     }
 
     // Feeds a word.
-    pub fn word(mut self, w: u32) -> Self
+    pub fn word(self, w: u32) -> Self
         requires { self.count + 1 < 2 ^ 64 }
         ensures { result ≡ fed self (w ∷ []) }
     {
-        let one = [w];
-        self = self.words(&one);
-        self
+        self.words(&[w])
     }
 
     // The hash value after the words that were fed and their padding.

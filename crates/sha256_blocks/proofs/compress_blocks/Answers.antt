@@ -1,41 +1,18 @@
--- `compress_blocks` meets its contract: the blocks before i are hashed.
-use mathlib.Core.Path.{refl, ap, ◌∙◌}
-use Prim.Native.Nat.{◌+◌}
-use native.Mathlib.Nat.{add-sub_cancel_left}
-use native.Mathlib.Omega.{arith}
-use lib.ListN.{length}
+-- `compress_blocks` meets its contract.
+use Rattle.std.proofs.Common.{refl, arith}
+use Rattle.sha2_common.specs.Blocks.{by_rounds}
+use Rattle.sha2_common.proofs.Blocks.{hash_over-same}
 use Rattle.sha256_block.specs.Fips.{K}
-use Rattle.sha256_block.proofs.Rounds.{length-schedule}
-use Rattle.sha2_common.specs.Blocks as sha2
-use Rattle.sha2_common.proofs.Blocks.{length_part, hash_from-next, hash_from-end}
+use Rattle.sha256_block.specs.Equations.{sha256_functions}
+use Rattle.sha256_block.proofs.Rounds.{compress-same}
 use Rattle.sha256_blocks.specs.Blocks.{sha256_function}
 use Rattle.sha256_blocks.proofs.Blocks.{sixteen}
 use Rattle.sha256_blocks.proofs.compress_blocks.Goals as goal
 
-pub loop-i-init : goal.loop-i-init
-unfolding sha2.hash_from
-loop-i-init c = (omega arith, refl, refl, refl)
-
-pub compress-next-requires : goal.compress-next-requires
+pub compress_blocks-requires : goal.compress_blocks-requires
 unfolding K
-compress-next-requires c =
-    let l = c.loop-i in
-    let s = c.args.s.now in
-    (refl, length_part s l.i (l.i + 16) (omega arith) ∙ add-sub_cancel_left l.i 16, l.invariant.2)
-
-pub loop-i-preserved : goal.loop-i-preserved
-loop-i-preserved c =
-    let l = c.loop-i in
-    let a = c.args in
-    let r = c.compress-next.ensures in (
-      omega arith,
-      omega arith,
-      ap length r.room ∙ length-schedule _ 64,
-      hash_from-next sha256_function sixteen a.h a.s.now l.i l.r _ l.invariant.1 l.invariant.3 r.value,
-    )
+compress_blocks-requires c = (omega arith, (omega arith, (refl, refl, omega arith, refl, refl, sixteen)))
 
 pub returns : goal.returns
 returns c =
-    let l = c.loop-i in
-    let a = c.args in
-    hash_from-end sha256_function sixteen a.h a.s.now l.i (omega arith) (omega arith) l.invariant.1 l.invariant.3
+    hash_over-same (by_rounds sha256_functions 64) sha256_function refl compress-same c.args.h c.args.s.now c.compress_blocks.ensures
