@@ -20,7 +20,7 @@ use Rattle.index.specs.declared.Known.{Known}
 use Rattle.index.specs.Kept.{before}
 use Rattle.index.specs.Known.{IsKnown}
 use Rattle.index.proofs.Reading.{known-item}
-use Rattle.lookup.specs.Search.{address_in, addressed}
+use Rattle.lookup.specs.Search.{addressed}
 
 -- the code's test of a main item is the model's
 is_true : (b : Bool) → beq b true ≡ b
@@ -32,7 +32,7 @@ same_test n = λ j e. is_true (main e) j && same_words e.item.address n.address
 
 -- what the search of note k finds, by the size that the code finds
 pub noted-found : (board notes : List ℕ) (k : ℕ) {s : ℕ} → s ≡ note_size (format_of board) → (h : History) {r : ℕ}
-    → r ≡ first (addressed true (address_in board notes (s * k + time_size))) h → r ≡ noted_item (note_at (format_of board) notes k) h
+    → r ≡ first (addressed true (part (s * k + time_size) (format_of board).address notes)) h → r ≡ noted_item (note_at (format_of board) notes k) h
 unfolding noted_item note_at
 noted-found board notes k e h q = q ∙ rw e (ap (λ (p : Entry → Bool). first p h) (same_test (note_at (format_of board) notes k)))
 

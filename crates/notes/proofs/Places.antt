@@ -11,10 +11,6 @@ use Rattle.format.specs.Format.{format_of}
 use Rattle.format.proofs.Traits.{sizes}
 use Rattle.notes.specs.Holding.{Whole}
 
--- a note has words
-pub size-some : (board : List ℕ) {n : ℕ} → n ≡ note_size (format_of board) → 1 ≤ n
-size-some board e = omega arith
-
 -- how many there are, by the size that the code finds
 pub counted : (board notes : List ℕ) {n : ℕ} → n ≡ note_size (format_of board) → length notes / n ≡ note_count (format_of board) notes
 counted board notes e = rw e

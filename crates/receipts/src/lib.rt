@@ -27,7 +27,7 @@ impl Receipt {
     // The most receipts that are answered at once.
     pub const LIMIT: usize = 512;
 
-    // The answer to a receipt that has no cast.
+    // The answer to a receipt that has no cast. Kept: a word of the caller's buffer, as the C interface has it.
     const NONE: u32 = 4_294_967_295;
 }
 

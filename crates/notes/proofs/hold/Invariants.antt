@@ -1,15 +1,13 @@
-use Prim.Native.Nat.{◌-◌, ◌≤◌}
+use Prim.Native.Nat.{◌-◌}
 use mathlib.Core.Path.{◌≡◌}
 use Rattle.watch.specs.Notes.{item_before, held_from, held}
 use Rattle.format.specs.Format.{format_of}
-use Rattle.index.specs.Kept.{before}
+use Rattle.index.specs.Passed.{history_of}
 use Rattle.notes.proofs.hold.Given as goal
 
 abbrev pub invariant-loop-k : goal.invariant-loop-k
 invariant-loop-k l =
-    let f = format_of l.board in
-    let h = before l.board l.items in
-    (l.k ≤ l.total) × (held f l.notes h ≡ held_from f l.notes h l.k (l.total - l.k)) × (l.last ≡ item_before f l.notes h l.k)
-
-abbrev pub decreases-loop-k : goal.decreases-loop-k
-decreases-loop-k l = l.total - l.k
+    let f = format_of l.held.parents.passed.board.now in
+    let ns = l.held.notes.now in
+    let h = history_of l.held.parents.passed in
+    (held f ns h ≡ held_from f ns h l.k (l.k-end - l.k)) × (l.last ≡ item_before f ns h l.k)
