@@ -51,9 +51,10 @@ fn number_in(word: u32) -> usize
     ensures { result ≡ number_in word }
 {
     if word == Column::NO_NUMBER {
-        return 0;
+        0
+    } else {
+        word as usize
     }
-    words::wide(word)
 }
 
 // The word of an item number in a row.
@@ -62,60 +63,20 @@ fn number_word(number: usize) -> u32
     ensures { result ≡ number_word number }
 {
     if number == 0 {
-        return Column::NO_NUMBER;
+        Column::NO_NUMBER
+    } else {
+        number as u32
     }
-    number as u32
 }
 
-// The word at a column of the row of item number k. `parent`, `mains_before` and `closer` read that and no word of the board, which stands
-// in their contracts only.
+// The word at a column of the row of item number k. `Passed::parent`, `mains_before` and `closer` read that and no word of
+// the board, which stands in their contracts only.
 fn word(index: &[u32], k: usize, column: usize) -> u32
     requires { (1 ≤ k) × (k ≤ item_limit) × (column < index_row) × (index_need ≤ length index.now) }
     ensures { result ≡ row_word index.now k column }
 {
     let row = Limit::INDEX_ROW * (k - 1);
     index[row + column]
-}
-
-// Item number k of the first count.
-pub fn entry(board: &[u32], index: &[u32], count: usize, k: usize) -> Known
-    requires kept { Kept board.now index.now count }
-    requires le_k { (1 ≤ k) × (k ≤ count) }
-    ensures { IsKnown board.now (entry (before board.now count) k) result }
-{
-    let item = Item::at(board, words::wide(word(index, k, Column::PLACE)));
-    Known {
-        item,
-        parent: words::wide(word(index, k, Column::PARENT)),
-        session: number_in(word(index, k, Column::SESSION)),
-    }
-}
-
-// The number of the parent of item number k of the first count.
-pub fn parent(board: &[u32], index: &[u32], count: usize, k: usize) -> usize
-    requires kept { Kept board.now index.now count }
-    requires le_k { (1 ≤ k) × (k ≤ count) }
-    ensures { result ≡ (entry (before board.now count) k).parent }
-{
-    words::wide(word(index, k, Column::PARENT))
-}
-
-// How many main items stand before item number k of the first count.
-pub fn mains_before(board: &[u32], index: &[u32], count: usize, k: usize) -> usize
-    requires kept { Kept board.now index.now count }
-    requires le_k { (1 ≤ k) × (k ≤ count) }
-    ensures { result ≡ main_number (before board.now count) (k - 1) }
-{
-    words::wide(word(index, k, Column::MAINS))
-}
-
-// The number of the cast or spoil under item number k of the first count: 0 for other items and open ballots.
-pub fn closer(board: &[u32], index: &[u32], count: usize, k: usize) -> usize
-    requires kept { Kept board.now index.now count }
-    requires le_k { (1 ≤ k) × (k ≤ count) }
-    ensures { result ≡ closer (before board.now count) k }
-{
-    number_in(word(index, k, Column::CLOSER))
 }
 
 // Writes a cast or spoil, the item after the first count, into the row of its ballot.

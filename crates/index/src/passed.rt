@@ -1,7 +1,8 @@
 // The first items of a board, which passed, as the index table has them.
 ghost use Rattle.index.specs.Kept.{Kept};
 
-use crate::{Known, closer, entry, mains_before, parent};
+use crate::{Column, Known, number_in, word};
+use format::item::Item;
 
 // Items that passed: the board, the index table that holds their rows, and how many they are. Item numbers count from 1.
 #[derive(Clone, Copy)]
@@ -19,38 +20,39 @@ impl<'a> Passed<'a> {
     ghost use Rattle.index.specs.Passed.{history_of};
 
     // Item number k.
-    #[tactic(auto, using(crate::proofs::Had::had))]
     pub fn entry(&self, k: usize) -> Known
         requires { (1 ≤ k) × (k ≤ self.now.count) }
         ensures { IsKnown self.now.board.now (entry_of (history_of self.now) k) result }
     {
-        entry(self.board, self.index, self.count, k)
+        let item = Item::at(self.board, word(self.index, k, Column::PLACE) as usize);
+        Known {
+            item,
+            parent: word(self.index, k, Column::PARENT) as usize,
+            session: number_in(word(self.index, k, Column::SESSION)),
+        }
     }
 
     // The number of the parent of item number k.
-    #[tactic(auto, using(crate::proofs::Had::had))]
     pub fn parent(&self, k: usize) -> usize
         requires { (1 ≤ k) × (k ≤ self.now.count) }
         ensures { result ≡ (entry_of (history_of self.now) k).parent }
     {
-        parent(self.board, self.index, self.count, k)
+        word(self.index, k, Column::PARENT) as usize
     }
 
     // How many main items stand before item number k.
-    #[tactic(auto, using(crate::proofs::Had::had))]
     pub fn mains_before(&self, k: usize) -> usize
         requires { (1 ≤ k) × (k ≤ self.now.count) }
         ensures { result ≡ main_number (history_of self.now) (k - 1) }
     {
-        mains_before(self.board, self.index, self.count, k)
+        word(self.index, k, Column::MAINS) as usize
     }
 
     // The number of the cast or spoil under item number k: 0 for other items and open ballots.
-    #[tactic(auto, using(crate::proofs::Had::had))]
     pub fn closer(&self, k: usize) -> usize
         requires { (1 ≤ k) × (k ≤ self.now.count) }
         ensures { result ≡ closer_of (history_of self.now) k }
     {
-        closer(self.board, self.index, self.count, k)
+        number_in(word(self.index, k, Column::CLOSER))
     }
 }

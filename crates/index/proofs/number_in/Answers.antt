@@ -8,6 +8,6 @@ pub returns-then-word-eq-NO_NUMBER : goal.returns-then-word-eq-NO_NUMBER
 unfolding number_in if◌then◌otherwise◌
 returns-then-word-eq-NO_NUMBER c = search eq-eqb
 
-pub returns : goal.returns
+pub returns-else-word-eq-NO_NUMBER : goal.returns-else-word-eq-NO_NUMBER
 unfolding number_in if◌then◌otherwise◌
-returns c = search (eq-eqb, ne_eqb)
+returns-else-word-eq-NO_NUMBER c = search (eq-eqb, ne_eqb)

@@ -8,6 +8,6 @@ pub returns-then-number-eq0 : goal.returns-then-number-eq0
 unfolding number_word if◌then◌otherwise◌
 returns-then-number-eq0 c = search eq-eqb
 
-pub returns : goal.returns
+pub returns-else-number-eq0 : goal.returns-else-number-eq0
 unfolding number_word if◌then◌otherwise◌
-returns c = search ne_eqb
+returns-else-number-eq0 c = search ne_eqb

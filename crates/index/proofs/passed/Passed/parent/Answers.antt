@@ -1,8 +1,9 @@
 -- `parent` meets its contract: its column of the row is the parent's number. Assumes nothing.
 use mathlib.Core.Path.{◌∙◌}
+use Rattle.index.proofs.Had.{kept-had}
 use Rattle.index.proofs.Rows.{row-says}
-use Rattle.index.proofs.parent.Goals as goal
+use Rattle.index.proofs.passed.Passed.parent.Goals as goal
 
 pub returns : goal.returns
 returns c =
-    c.wide.ensures ∙ c.word.ensures ∙ (row-says c.requires.kept c.args.k c.requires.le_k.0 c.requires.le_k.1).parent
+    c.word.ensures ∙ (row-says (kept-had c.args.self.now.kept) c.args.k c.requires.0 c.requires.1).parent
