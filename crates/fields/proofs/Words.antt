@@ -3,13 +3,13 @@ use Prim.Native.Nat.{ℕ, zero, suc, ◌+◌, ◌*◌, ◌^◌, ◌≤◌, ◌<�
 use native.Mathlib.Nat.{not-suc-le-zero}
 use native.Mathlib.Omega.{arith}
 use mathlib.Core.Path.{◌≡◌, sym, ap, ◌∙◌}
-use mathlib.Core.Bool.{true, false}
+use mathlib.Core.Bool.{Bool, true, false}
 use mathlib.Core.List.{List}
 use lib.ListN.{length, get_or, get_or-eq_default}
 use borrow.Author.Tests.{eq-eqb, ne_eqb}
 use lib.Count.{ones, ones-le}
 use lib.Dec.{eqb}
-use Rattle.model.specs.Lists.{part}
+use Rattle.model.specs.Lists.{◌⇒◌, part}
 use Rattle.model.specs.Words.{pair}
 use Rattle.model.specs.Item.{Item, code, word}
 use Rattle.model.specs.History.{History, Entry, absent, entry, item_no}
@@ -81,6 +81,15 @@ module _ {board index : List ℕ} {s : State} {c : Known} (a : AtItem board inde
 
   pub not-type : (t : ℕ) → (c.item.head.code ≡ t → ⊥) → eqb (code (item_after board s.items)) t ≡ false
   not-type t q = ne_eqb _ _ (λ e. q (at_code a ∙ e))
+
+  -- a rule of its type, and one of another
+  pub of-type : (t : ℕ) → c.item.head.code ≡ t → (rule : Bool) → rule ≡ (eqb (code (item_after board s.items)) t ⇒ rule)
+  unfolding ◌⇒◌
+  of-type t q rule = rw (is-type t q)
+
+  pub of-other : (t : ℕ) → (c.item.head.code ≡ t → ⊥) → (rule : Bool) → true ≡ (eqb (code (item_after board s.items)) t ⇒ rule)
+  unfolding ◌⇒◌
+  of-other t q rule = rw (not-type t q)
 
 -- ---- sets
 

@@ -1,14 +1,12 @@
 // The content words of items, by their number in the content.
 #![tactic(auto)]
 
-ghost use Rattle.std.specs.Prelude.{◌≡◌, ◌+◌, ◌≤◌, length, get_or};
-ghost use Rattle.model.specs.Lists.{part};
+ghost use Rattle.std.specs.Prelude.{◌≡◌, get_or};
 ghost use Rattle.model.specs.Item.{word};
 ghost use Rattle.model.specs.History.{item_no};
 ghost use Rattle.index.specs.Passed.{history_of};
 ghost use Rattle.state.specs.Reached.{item_at};
 
-use format::item::Item;
 use format::size::Size;
 use index::passed::Passed;
 use state::candidate::Candidate;
@@ -49,21 +47,12 @@ impl Content {
     pub const SET: usize = 0;
 }
 
-// The content words of an item of the board.
-pub fn content_words(board: &[u32], item: Item) -> &[u32]
-    requires { item.content + item.head.count ≤ length board.now }
-    ensures { result.now ≡ part item.content item.head.count board.now }
-{
-    let start = item.content;
-    let end = start + item.head.count;
-    &board[start..end]
-}
-
 // The content words of the item that is asked about.
 pub fn content_of<'a>(next: &Candidate<'a>) -> &'a [u32]
     ensures { result.now ≡ (item_at next.now).content }
 {
-    content_words(next.board, next.known.item)
+    let item = next.known.item;
+    words::part(next.board, item.content, item.head.count)
 }
 
 // Word k of a content, 0 where it has none.
@@ -80,5 +69,6 @@ pub fn earlier_word(passed: &Passed, n: usize, k: usize) -> u32
     if n == 0 || passed.count < n {
         return 0;
     }
-    word(content_words(passed.board, passed.entry(n).item), k)
+    let item = passed.entry(n).item;
+    word(words::part(passed.board, item.content, item.head.count), k)
 }

@@ -1,16 +1,14 @@
 -- `genesis_ok` meets its contract. Assumes nothing.
 use mathlib.Core.Path.{◌∙◌}
-use Rattle.fields.proofs.Words.{content-within, content-word}
+use borrow.Author.Tests.{apart_eqb}
+use Rattle.state.proofs.Had.{at-had}
 use Rattle.config.proofs.Rules.{genesis-other, genesis-is}
 use Rattle.config.proofs.genesis_ok.Goals as goal
 
-pub returns-then-c-ne-GENESIS : goal.returns-then-c-ne-GENESIS
-returns-then-c-ne-GENESIS c = genesis-other c.requires c.if-c-ne-GENESIS.true
+pub returns-then-next-ne-GENESIS : goal.returns-then-next-ne-GENESIS
+returns-then-next-ne-GENESIS c =
+    rw (apart_eqb _ _ c.if-next-ne-GENESIS.true) (genesis-other (at-had c.args.next.now.at_item) c.if-next-ne-GENESIS.true)
 
-pub word-requires : goal.word-requires
-word-requires c = content-within c.requires
-
-pub returns : goal.returns
-returns c =
-    c.is_known.ensures
-    ∙ genesis-is c.requires c.if-c-ne-GENESIS.false c.word.result (c.word.ensures ∙ content-word c.requires 17)
+pub returns-else-next-ne-GENESIS : goal.returns-else-next-ne-GENESIS
+returns-else-next-ne-GENESIS c =
+    c.is_known.ensures ∙ rw (c.word.ensures, c.content_of.ensures) (genesis-is (at-had c.args.next.now.at_item) c.if-next-ne-GENESIS.false)

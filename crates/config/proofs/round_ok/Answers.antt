@@ -1,49 +1,56 @@
 -- `round_ok` meets its contract. Assumes nothing.
-use mathlib.Core.Path.{refl, ◌∙◌}
-use borrow.Author.Tests.{le-leb, lt-leb, lt-ltb, le-ltb}
-use Rattle.fields.proofs.Words.{content-within, content-word}
-use Rattle.config.proofs.Rules.{round-other, round-words, round-within, round_is}
 use native.Mathlib.Omega.{arith}
+use mathlib.Core.Path.{◌∙◌}
+use borrow.Author.Tests.{le-leb, lt-leb, lt-ltb}
+use borrow.Author.Rules.{rules}
+use Rattle.state.proofs.Had.{at-had}
+use Rattle.config.proofs.Rules.{round-other, round-words, round-is}
 use Rattle.config.proofs.round_ok.Goals as goal
+use Rattle.config.proofs.round_ok.Goals.{then-number-le-ROUND, else-number-le-ROUND}
 
-pub returns-then-c-ne-ROUND : goal.returns-then-c-ne-ROUND
-returns-then-c-ne-ROUND c = round-other c.requires c.if-c-ne-ROUND.true
+pub returns-then-next-ne-ROUND : goal.returns-then-next-ne-ROUND
+returns-then-next-ne-ROUND c = round-other (at-had c.args.next.now.at_item) c.if-next-ne-ROUND.true
 
-pub overflow_sub-at : goal.overflow_sub-at
-overflow_sub-at c = omega (arith, round-words c.requires c.if-c-ne-ROUND.false)
+pub overflow_sub-end : goal.overflow_sub-end
+overflow_sub-end c = omega (arith, round-words (at-had c.args.next.now.at_item) c.if-next-ne-ROUND.false _ c.content_of-content.ensures)
 
-pub word-requires : goal.word-requires
-word-requires c = content-within c.requires
+pub overflow_sub-start : goal.overflow_sub-start
+overflow_sub-start c = omega (arith, round-words (at-had c.args.next.now.at_item) c.if-next-ne-ROUND.false _ c.content_of-content.ensures)
 
-pub returns-then-word-gt-ROUND : goal.returns-then-word-gt-ROUND
-returns-then-word-gt-ROUND c =
-    rw (lt-leb _ _ c.if-word-gt-ROUND.true) at (round_is c.requires c.if-c-ne-ROUND.false c.word.result _ _ (c.word.ensures ∙ content-word c.requires 0) refl refl)
+pub pair_at-from-requires : goal.pair_at-from-requires
+pair_at-from-requires c = omega (arith, round-words (at-had c.args.next.now.at_item) c.if-next-ne-ROUND.false _ c.content_of-content.ensures)
 
-pub overflow_sub-at-2 : goal.overflow_sub-at-2
-overflow_sub-at-2 c = omega (arith, round-words c.requires c.if-c-ne-ROUND.false)
+pub pair_at-to-requires : goal.pair_at-to-requires
+pair_at-to-requires c = omega (arith, round-words (at-had c.args.next.now.at_item) c.if-next-ne-ROUND.false _ c.content_of-content.ensures)
 
-pub pair-requires : goal.pair-requires
-pair-requires c = (content-within c.requires, omega (arith, round-words c.requires c.if-c-ne-ROUND.false))
+pub overflow_sub-start-2 : goal.overflow_sub-start-2
+overflow_sub-start-2 c = omega (arith, round-words (at-had c.args.next.now.at_item) c.if-next-ne-ROUND.false _ c.content_of-content.ensures)
 
-pub pair-requires-2 : goal.pair-requires-2
-pair-requires-2 c = (content-within c.requires, omega (arith, round-words c.requires c.if-c-ne-ROUND.false))
-
-pub returns-then-pair : goal.returns-then-pair
-returns-then-pair c =
-    rw (le-leb _ _ c.if-word-gt-ROUND.false, le-ltb _ _ c.if-pair.true) at (round_is c.requires c.if-c-ne-ROUND.false c.word.result _ _ (c.word.ensures ∙ content-word c.requires 0) c.pair.ensures c.pair-2.ensures)
-
-pub overflow_add-item : goal.overflow_add-item
-overflow_add-item c = omega (arith, content-within c.requires)
-
-pub overflow_sub-item : goal.overflow_sub-item
-overflow_sub-item c = omega (arith, round-words c.requires c.if-c-ne-ROUND.false)
+pub part-contests-requires : goal.part-contests-requires
+part-contests-requires c = omega (arith, round-words (at-had c.args.next.now.at_item) c.if-next-ne-ROUND.false _ c.content_of-content.ensures)
 
 pub contests_ok-requires : goal.contests_ok-requires
 contests_ok-requires c =
-    let (within, few) = round-within c.requires c.if-c-ne-ROUND.false in
-    (c.requires.stands, within, few)
+    omega (arith, c.part-contests.ensures.len, round-words (at-had c.args.next.now.at_item) c.if-next-ne-ROUND.false _ c.content_of-content.ensures)
 
-pub returns : goal.returns
-returns c =
-    c.contests_ok.ensures
-    ∙ rw (le-leb _ _ c.if-word-gt-ROUND.false, lt-ltb _ _ c.if-pair.false) at (round_is c.requires c.if-c-ne-ROUND.false c.word.result _ _ (c.word.ensures ∙ content-word c.requires 0) c.pair.ensures c.pair-2.ensures)
+pub returns-then-from-to : goal.returns-then-from-to
+returns-then-from-to c =
+    let next = c.args.next.now in
+    let content = c.content_of-content in
+    let at = at-had next.at_item in
+    let number = rw content.ensures at c.word-number.ensures in
+    let (low, before) = c.if-from-to.true in
+    c.contests_ok.ensures next.board.now at.stands
+    ∙ rw (c.part-contests.ensures.value) (rw (le-leb _ _ low, lt-ltb _ _ before) at
+    (round-is at c.if-next-ne-ROUND.false content.result.now content.ensures _ _ _ number c.pair_at-from.ensures c.pair_at-to.ensures))
+
+pub returns-else-from-to : goal.returns-else-from-to
+returns-else-from-to c =
+    let next = c.args.next.now in
+    let content = c.content_of-content in
+    let number = rw content.ensures at c.word-number.ensures in
+    let rule = round-is (at-had next.at_item) c.if-next-ne-ROUND.false content.result.now content.ensures _ _ _ number c.pair_at-from.ensures c.pair_at-to.ensures in
+    elim c.if-number-le-ROUND.branch [
+      | then-number-le-ROUND w ↦ let late = rw (le-leb _ _ w.if-number-le-ROUND.true) at rule in search rules
+      | else-number-le-ROUND w ↦ let high = rw (lt-leb _ _ w.if-number-le-ROUND.false) at rule in search rules
+    ]

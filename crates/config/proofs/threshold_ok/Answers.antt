@@ -1,27 +1,27 @@
 -- `threshold_ok` meets its contract. Assumes nothing.
-use mathlib.Core.Path.{◌∙◌}
 use borrow.Author.Tests.{le-leb, lt-leb}
-use Rattle.fields.proofs.Words.{content-within, content-word}
+use borrow.Author.Rules.{rules}
+use Rattle.state.proofs.Had.{at-had}
 use Rattle.config.proofs.Rules.{threshold-other, threshold-is}
 use Rattle.config.proofs.threshold_ok.Goals as goal
+use Rattle.config.proofs.threshold_ok.Goals.{then-threshold-ge1, else-threshold-ge1}
 
-pub returns-then-c-ne-THRESHOLD : goal.returns-then-c-ne-THRESHOLD
-returns-then-c-ne-THRESHOLD c = threshold-other c.requires c.if-c-ne-THRESHOLD.true
+pub returns-then-next-ne-THRESHOLD : goal.returns-then-next-ne-THRESHOLD
+returns-then-next-ne-THRESHOLD c = threshold-other (at-had c.args.next.now.at_item) c.if-next-ne-THRESHOLD.true
 
-pub word-trustees-requires : goal.word-trustees-requires
-word-trustees-requires c = content-within c.requires
+pub returns-then-threshold-trustees : goal.returns-then-threshold-trustees
+returns-then-threshold-trustees c =
+    let m = rw c.content_of-content.ensures at c.word-trustees.ensures in
+    let t = rw c.content_of-content.ensures at c.word-threshold.ensures in
+    let (some, few) = c.if-threshold-trustees.true in
+    rw (le-leb _ _ some, le-leb _ _ few) at (threshold-is (at-had c.args.next.now.at_item) c.if-next-ne-THRESHOLD.false _ _ m t)
 
-pub word-threshold-requires : goal.word-threshold-requires
-word-threshold-requires c = content-within c.requires
-
-pub returns-then-threshold-lt1 : goal.returns-then-threshold-lt1
-returns-then-threshold-lt1 c =
-    rw (lt-leb _ _ c.if-threshold-lt1.true) at (threshold-is c.requires c.if-c-ne-THRESHOLD.false _ _ (c.word-trustees.ensures ∙ content-word c.requires 0) (c.word-threshold.ensures ∙ content-word c.requires 1))
-
-pub returns-then-trustees-threshold : goal.returns-then-trustees-threshold
-returns-then-trustees-threshold c =
-    rw (le-leb _ _ c.if-threshold-lt1.false, lt-leb _ _ c.if-trustees-threshold.true) at (threshold-is c.requires c.if-c-ne-THRESHOLD.false _ _ (c.word-trustees.ensures ∙ content-word c.requires 0) (c.word-threshold.ensures ∙ content-word c.requires 1))
-
-pub returns : goal.returns
-returns c =
-    rw (le-leb _ _ c.if-threshold-lt1.false, le-leb _ _ c.if-trustees-threshold.false) at (threshold-is c.requires c.if-c-ne-THRESHOLD.false _ _ (c.word-trustees.ensures ∙ content-word c.requires 0) (c.word-threshold.ensures ∙ content-word c.requires 1))
+pub returns-else-threshold-trustees : goal.returns-else-threshold-trustees
+returns-else-threshold-trustees c =
+    let m = rw c.content_of-content.ensures at c.word-trustees.ensures in
+    let t = rw c.content_of-content.ensures at c.word-threshold.ensures in
+    let rule = threshold-is (at-had c.args.next.now.at_item) c.if-next-ne-THRESHOLD.false _ _ m t in
+    elim c.if-threshold-ge1.branch [
+      | then-threshold-ge1 w ↦ let less = rw (le-leb _ _ w.if-threshold-ge1.true) at rule in search rules
+      | else-threshold-ge1 w ↦ let none = rw (lt-leb _ _ w.if-threshold-ge1.false) at rule in search rules
+    ]

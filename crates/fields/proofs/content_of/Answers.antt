@@ -5,8 +5,8 @@ use Rattle.state.proofs.Had.{at-had}
 use Rattle.fields.proofs.Words.{content-within}
 use Rattle.fields.proofs.content_of.Goals as goal
 
-pub content_words-requires : goal.content_words-requires
-content_words-requires c = content-within (at-had c.args.next.now.at_item)
+pub part-requires : goal.part-requires
+part-requires c = content-within (at-had c.args.next.now.at_item)
 
 pub returns : goal.returns
-returns c = c.content_words.ensures ∙ at-content-words (at-had c.args.next.now.at_item)
+returns c = c.part.ensures.value ∙ at-content-words (at-had c.args.next.now.at_item)

@@ -19,8 +19,8 @@ returns-then-n-eq0 c =
           (omega (arith, length-history (format_of passed.board.now) passed.board.now passed.count, w.if-passed-n.true))
     ]
 
-pub content_words-requires : goal.content_words-requires
-content_words-requires c = (known-within c.entry.ensures).content
+pub part-requires : goal.part-requires
+part-requires c = (known-within c.entry.ensures).content
 
 pub returns : goal.returns
-returns c = c.word.ensures ∙ rw c.content_words.ensures (known-content-word c.entry.ensures c.args.k)
+returns c = c.word.ensures ∙ rw c.part.ensures.value (known-content-word c.entry.ensures c.args.k)
