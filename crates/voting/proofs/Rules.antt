@@ -2,19 +2,19 @@
 use Prim.Native.Nat.{ℕ, suc, ◌+◌, ◌-◌, ◌*◌, ◌%◌, ◌^◌, ◌≤◌, ◌<◌}
 use native.Mathlib.Nat.{mul-le-mul}
 use native.Mathlib.Omega.{arith}
-use mathlib.Core.Path.{◌≡◌, sym, ap, ◌∙◌}
+use mathlib.Core.Path.{◌≡◌, refl, sym, ap, ◌∙◌}
 use mathlib.Core.Logic.{◌≢◌}
 use mathlib.Core.Bool.{Bool, true, false, ◌&&◌}
 use mathlib.Core.List.{List, []}
-use lib.ListN.{length, get_or, drop, length-drop}
+use lib.ListN.{length, get_or, take, drop, length-drop}
 use lib.Seq.{take_all}
 use lib.Dec.{eqb, leb, eqb→eq}
-use borrow.Author.Tests.{eq-eqb, ne_eqb, le-leb, lt-leb}
+use borrow.Author.Tests.{eq-eqb, ne_eqb}
 use Rattle.model.specs.Lists.{◌⇒◌, part, any}
-use Rattle.model.specs.Words.{pair, member, size, all_in, low_zero}
+use Rattle.model.specs.Words.{between, pair, member, size, all_in, low_zero}
 use Rattle.model.specs.Codes.{session_type, voter_commitment_type, server_commitment_type, ballot_type}
 use Rattle.model.specs.Item.{Item, item_length, code, time, word}
-use Rattle.model.specs.History.{History, Entry, entry, item_no, session_number, session_contests}
+use Rattle.model.specs.History.{History, Entry, entry, item_no, session_number}
 use Rattle.model.specs.Phase.{rounds}
 use Rattle.model.specs.Content.{contests_ok, enables, may_vote, cryptograms_ok, session_ok, commitment_ok, ballot_contests, ballot_ok}
 use Rattle.model.proofs.Parts.{length_part, part-part}
@@ -35,11 +35,12 @@ use Rattle.index.proofs.Reading.{known-item}
 use Rattle.state.specs.Standing.{enabled_word}
 use Rattle.state.specs.declared.State.{State}
 use Rattle.state.specs.Stands.{AtItem}
+use Rattle.state.proofs.Had.{at-had}
 use Rattle.state.proofs.Rounds.{rounds-small}
 use Rattle.state.proofs.Defined.{within-enabled}
 use Rattle.state.proofs.At as at
 use Rattle.state.proofs.At.{at_code, at-session, at-time, at_words, at-content-words, session-in-range}
-use Rattle.fields.proofs.Words.{is-type, not-type, content-within, content-length, known-content}
+use Rattle.fields.proofs.Words.{of-type, of-other, content-length, known-content}
 use Rattle.voting.specs.Rules.{AtBallot, own_contests}
 
 -- ---- the last word of each cryptogram
@@ -80,88 +81,74 @@ module _ {board index : List ℕ} {s : State} {c : Known} (a : AtItem board inde
   -- ---- 16, session
 
   pub session-other : (c.item.head.code ≡ session_type → ⊥) → true ≡ session_ok h i
-  unfolding session_ok ◌⇒◌
-  session-other q = rw (not-type a session_type q)
+  unfolding session_ok
+  session-other q = of-other a session_type q _
 
-  pub session-places : c.item.head.code ≡ session_type → (19 ≤ c.item.head.count) × (c.item.head.count ≤ 26)
+  pub session-words : c.item.head.code ≡ session_type → (content : List ℕ) → content ≡ i.content → (19 ≤ length content) × (length content ≤ 26)
   unfolding has_words
-  session-places = at_words a session_type 19 26 tt
+  session-words q content e =
+      let words = at_words a session_type 19 26 tt q in
+      let long = ap length e ∙ content-length a in
+      (omega arith, omega arith)
 
   -- its contests stand last
-  session-set : c.item.head.code ≡ session_type → part (c.item.content + 18) (c.item.head.count - 18) board ≡ session_contests i
-  unfolding part
-  session-set q =
-      let n = c.item.head.count in
-      let few = session-places q in
-      let last = take_all (n - 18) (drop 18 i.content) (simp length-drop (omega (arith, content-length a))) in
-      rw (← last, ← at-content-words a) (sym (part-part 18 (n - 18) c.item.content n board (omega arith)))
+  pub session-set : (content : List ℕ) → take (length content - 18) (drop 18 content) ≡ drop 18 content
+  session-set content = take_all (length content - 18) (drop 18 content) (simp length-drop (omega arith))
 
-  pub session-is : c.item.head.code ≡ session_type → (weight : ℕ) → weight ≡ word 1 i
-      → (leb 1 weight && contests_ok h (part (c.item.content + 18) (c.item.head.count - 18) board)) ≡ session_ok h i
-  unfolding session_ok ◌⇒◌
-  session-is q weight d = rw (is-type a session_type q, d, session-set q)
+  pub session-is : c.item.head.code ≡ session_type → (content contests : List ℕ) → content ≡ i.content → contests ≡ drop 18 content → (weight : ℕ) → weight ≡ word 1 i
+      → (leb 1 weight && contests_ok h contests) ≡ session_ok h i
+  unfolding session_ok
+  session-is q content contests e k weight d = rw (d, k, e) (of-type a session_type q _)
 
   -- ---- 17 and 18, commitments
 
-  pub commitment-below : c.item.head.code < voter_commitment_type → true ≡ commitment_ok (format_of board) i
+  pub commitment-other : between voter_commitment_type server_commitment_type c.item.head.code ≡ false → true ≡ commitment_ok (format_of board) i
   unfolding commitment_ok ◌⇒◌
-  commitment-below l = rw (lt-leb voter_commitment_type (code i) (rw (at_code a) at l))
+  commitment-other q = rw (rw (at_code a) at q)
 
-  pub commitment-above : voter_commitment_type ≤ c.item.head.code → server_commitment_type < c.item.head.code → true ≡ commitment_ok (format_of board) i
-  unfolding commitment_ok ◌⇒◌
-  commitment-above k l = rw (le-leb voter_commitment_type (code i) (rw (at_code a) at k), lt-leb (code i) server_commitment_type (rw (at_code a) at l))
-
-  pub commitment-is : voter_commitment_type ≤ c.item.head.code → c.item.head.code ≤ server_commitment_type → {f : Format} → Knows board f
-      → (last : ℕ) → last ≡ word (f.commitment - 1) i → eqb (last % f.unit) 0 ≡ commitment_ok (format_of board) i
+  pub commitment-is : between voter_commitment_type server_commitment_type c.item.head.code ≡ true → {f : Format} → Knows board f
+      → eqb (word (f.commitment - 1) i % f.unit) 0 ≡ commitment_ok (format_of board) i
   unfolding commitment_ok ◌⇒◌ low_zero
-  commitment-is k l n last e =
-      rw (
-        le-leb voter_commitment_type (code i) (rw (at_code a) at k),
-        le-leb (code i) server_commitment_type (rw (at_code a) at l),
-        e,
-        n.commitment,
-        n.unit,
-      )
+  commitment-is q n = rw (rw (at_code a) at q, n.commitment, n.unit)
 
   -- ---- 19, ballot
 
   pub ballot-other : (c.item.head.code ≡ ballot_type → ⊥) → true ≡ ballot_ok (format_of board) h i
-  unfolding ballot_ok ◌⇒◌
-  ballot-other q = rw (not-type a ballot_type q)
+  unfolding ballot_ok
+  ballot-other q = of-other a ballot_type q _
+
+-- a ballot, by what is known of its item
+pub ballot-at : {board index : List ℕ} {s : State} {c : Known} {sets : ℕ} → ∥ AtItem board index s c ∥₁ → c.item.head.code ≡ ballot_type
+    → sets ≡ (format_of board).sets → AtBallot board index s c sets
+ballot-at a q e = record { at = at-had a; type = q; width = e }
 
 module _ {board index : List ℕ} {s : State} {c : Known} {sets : ℕ} (b : AtBallot board index s c sets) where
   abbrev a : AtItem board index s c
   a = b.at
 
   abbrev contests : List ℕ
-  contests = part c.item.content sets board
+  contests = ballot_contests (format_of board) (i a)
 
   pub sets-few : sets ≤ 8
   sets-few = omega (arith, b.width, Traits.sets-few board)
 
-  pub ballot-places : (18 ≤ c.item.head.count) × (c.item.content + c.item.head.count ≤ length board)
+  pub ballot-words : (content : List ℕ) → content ≡ (i a).content → 18 ≤ length content
   unfolding has_words
-  ballot-places = ((at_words a ballot_type 18 8712 tt b.type).0, content-within a)
-
-  pub set-within : c.item.content + sets ≤ length board
-  set-within = let places = ballot-places in let few = sets-few in omega arith
+  ballot-words content e = let words = at_words a ballot_type 18 8712 tt b.type in omega (arith, ap length e ∙ content-length a)
 
   -- its contests stand first
-  ballot-set : contests ≡ ballot_contests (format_of board) (i a)
-  ballot-set =
-      let places = ballot-places in
+  pub contests-words : length contests ≡ sets
+  contests-words =
+      let words = ballot-words (i a).content refl in
       let few = sets-few in
-      let first : c.item.content + 0 ≡ c.item.content = omega arith in
-      sym (rw first at (part-part 0 sets c.item.content c.item.head.count board (omega arith)))
-      ∙ ap (part 0 sets) (at-content-words a)
-      ∙ ap (λ (n : ℕ). part 0 n (i a).content) b.width
+      length_part 0 (format_of board).sets (i a).content (omega (arith, b.width)) ∙ sym b.width
 
   -- n contests, each with its cryptogram of so many words, and the voter may vote in all of them
-  pub ballot-is : (each : ℕ) → each ≡ (format_of board).cryptogram → (n : ℕ) (may : Bool) → n ≡ size contests → may ≡ all_in contests (may_vote (h a) (i a))
-      → (eqb c.item.head.count (sets + n * each) && may && cryptograms_ok sets each n (part c.item.content c.item.head.count board))
-      ≡ ballot_ok (format_of board) (h a) (i a)
-  unfolding ballot_ok ◌⇒◌
-  ballot-is each g n may d e = rw (g, is-type a ballot_type b.type, e, d, ballot-set, b.width, content-length a, at-content-words a)
+  pub ballot-is : (content cs : List ℕ) → content ≡ (i a).content → cs ≡ part 0 sets content → (each : ℕ) → each ≡ (format_of board).cryptogram
+      → (n : ℕ) (may : Bool) → n ≡ size cs → may ≡ all_in cs (may_vote (h a) (i a))
+      → (eqb (length content) (sets + n * each) && may && cryptograms_ok sets each n content) ≡ ballot_ok (format_of board) (h a) (i a)
+  unfolding ballot_ok
+  ballot-is content cs e k each g n may d m = rw (g, d, m, k, e, b.width) (of-type a ballot_type b.type _)
 
   -- ---- the contests in which the voter may vote: those of the session that an open round enables
 
@@ -211,7 +198,7 @@ module _ {board index : List ℕ} {s : State} {c : Known} {sets : ℕ} (b : AtBa
       → (own && all_in contests (member enabled)) ≡ all_in contests (may_vote (h a) (i a))
   unfolding may_vote
   may-vote-is t own enabled d e u =
-      let words : length contests ≤ 8 = omega (arith, sets-few, length_part c.item.content sets board set-within) in
+      let words : length contests ≤ 8 = omega (arith, sets-few, contests-words) in
       let time-is : t ≡ time (i a) = d ∙ at-time a in
       let opened = within-enabled (h a) enabled contests words t (rounds-small a.kept.passed) u in
       rw (e, opened, time-is) (sym (all_in-and contests (member (own_contests board s)) (λ j. any (enables (time (i a)) j) (rounds (h a)))))

@@ -1,131 +1,116 @@
 // Check 13 for voting: session, commitments, ballot. Paper: "Content", "Item types" (sets).
 #![tactic(auto)]
 
-ghost use Rattle.std.specs.Prelude.{◌≡◌, ◌+◌, ◌*◌, ◌≤◌, length};
-ghost use Rattle.model.specs.Lists.{part};
+ghost use Rattle.std.specs.Prelude.{◌≡◌, ◌*◌, ◌≤◌};
 ghost use Rattle.model.specs.Words.{set_bits, member, all_in};
 ghost use Rattle.model.specs.Codes.{ballot_type};
 ghost use Rattle.model.specs.Content.{cryptograms_ok, session_ok, commitment_ok, ballot_contests, may_vote, ballot_ok};
 ghost use Rattle.format.specs.Format.{format_of};
-ghost use Rattle.index.specs.Kept.{before, item_after, rule_after};
-ghost use Rattle.state.specs.Stands.{AtItem};
-ghost use Rattle.voting.specs.Rules.{voting_ok, AtBallot, own_contests};
+ghost use Rattle.state.specs.Reached.{history_before, item_at, rule_at};
+ghost use Rattle.voting.specs.Rules.{voting_ok, own_contests};
 
 use config::contests_ok;
 use fields::range::Range;
-use fields::{Content, word};
+use fields::{Content, content_of, word};
 use format::format::Format;
+use format::head;
 use format::head::Head;
-use format::item::Item;
-use format::size::Size;
-use index::Known;
-use state::State;
+use state::candidate::Candidate;
 
 // The voters' part of check 13.
-pub fn voting_ok(board: &[u32], index: &[u32], s: State, c: Known) -> bool
-    requires { AtItem board.now index.now s c }
-    ensures { result ≡ rule_after voting_ok board.now s.items }
+pub fn voting_ok(next: &Candidate) -> bool
+    ensures { result ≡ rule_at voting_ok next.now }
 {
-    if !session_ok(board, index, s, c) {
-        return false;
-    }
-    if !commitment_ok(board, index, s, c) {
-        return false;
-    }
-    ballot_ok(board, index, s, c)
+    session_ok(next) && commitment_ok(next) && ballot_ok(next)
 }
 
 // 16, session: the weight is at least 1, and the contests are defined.
-fn session_ok(board: &[u32], index: &[u32], s: State, c: Known) -> bool
-    requires { AtItem board.now index.now s c }
-    ensures { result ≡ session_ok (before board.now s.items) (item_after board.now s.items) }
+fn session_ok(next: &Candidate) -> bool
+    ensures { result ≡ session_ok (history_before next.now) (item_at next.now) }
 {
-    if c.item.head.code != Head::SESSION {
+    if next.known.item.head.code != Head::SESSION {
         return true;
     }
-    let item = c.item;
-    let weight = word(board, item, Content::WEIGHT);
-    let at = item.content + Content::SESSION_CONTESTS;
-    1 <= weight && contests_ok(board, s, at, item.head.count - Size::SESSION)
+    let content = content_of(next);
+    1 <= word(content, Content::WEIGHT)
+        && contests_ok(&next.state, &content[Content::SESSION_CONTESTS..])
 }
 
 // 17 and 18, commitments: the spare bits of the last word are zero.
-fn commitment_ok(board: &[u32], index: &[u32], s: State, c: Known) -> bool
-    requires { AtItem board.now index.now s c }
-    ensures { result ≡ commitment_ok (format_of board.now) (item_after board.now s.items) }
+fn commitment_ok(next: &Candidate) -> bool
+    ensures { result ≡ commitment_ok (format_of next.now.board.now) (item_at next.now) }
 {
-    if c.item.head.code < Head::VOTER_COMMITMENT {
+    if !head::is_between(
+        Head::VOTER_COMMITMENT,
+        Head::SERVER_COMMITMENT,
+        next.known.item.head.code,
+    ) {
         return true;
     }
-    if c.item.head.code > Head::SERVER_COMMITMENT {
-        return true;
-    }
-    let item = c.item;
-    let format = Format::of(board);
-    word(board, item, format.commitment - 1) % format.unit == 0
+    let format = Format::of(next.board);
+    word(content_of(next), format.commitment - 1) % format.unit == 0
 }
 
 // 19, ballot: as many cryptograms as contests, each contest one that the voter may vote in, and the spare bits of the cryptograms zero.
-fn ballot_ok(board: &[u32], index: &[u32], s: State, c: Known) -> bool
-    requires { AtItem board.now index.now s c }
-    ensures { result ≡ rule_after ballot_ok board.now s.items }
+fn ballot_ok(next: &Candidate) -> bool
+    ensures { result ≡ rule_at ballot_ok next.now }
 {
-    if c.item.head.code != Head::BALLOT {
+    if next.known.item.head.code != Head::BALLOT {
         return true;
     }
-    let item = c.item;
-    let format = Format::of(board);
+    let content = content_of(next);
+    let format = Format::of(next.board);
     let sets = format.sets;
-    let cryptograms = words::wide(sets::count(words::part(board, item.content, sets)));
-    if item.head.count != sets + cryptograms * format.cryptogram {
-        return false;
-    }
-    if !may_vote(board, index, s, c, sets) {
-        return false;
-    }
-    cryptograms_ok(board, item, sets, format.cryptogram, cryptograms)
+    let contests = words::part(content, 0, sets);
+    let cryptograms = words::wide(sets::count(contests));
+    content.len() == sets + cryptograms * format.cryptogram
+        && may_vote(next, contests)
+        && cryptograms_ok(content, sets, format.cryptogram, cryptograms)
 }
 
 // Whether the voter may vote in each contest of a ballot: the session has it, and an open round enables it.
-fn may_vote(board: &[u32], index: &[u32], s: State, c: Known, sets: usize) -> bool
-    requires { AtBallot board.now index.now s c sets }
-    ensures { result ≡ all_in (part c.item.content sets board.now)
-        (may_vote (before board.now s.items) (item_after board.now s.items)) }
+fn may_vote(next: &Candidate, contests: &[u32]) -> bool
+    requires { (next.now.known.item.head.code ≡ ballot_type)
+        × (contests.now ≡ ballot_contests (format_of next.now.board.now) (item_at next.now)) }
+    ensures { result ≡ all_in contests.now (may_vote (history_before next.now) (item_at next.now)) }
 {
-    if !is_own(board, index, s, c, sets) {
+    if !is_own(next, contests) {
         return false;
     }
-    let time = words::pair_at(board, c.item.time);
-    let enabled = rounds::enabled(board, index, s, time);
-    sets::is_within(words::part(board, c.item.content, sets), &enabled)
+    let time = words::pair_at(next.board, next.known.item.time);
+    let enabled = rounds::enabled(&next.progress(), time);
+    sets::is_within(contests, &enabled)
 }
 
 // Whether the session has each contest of a ballot. Without a session there is none.
-fn is_own(board: &[u32], index: &[u32], s: State, c: Known, sets: usize) -> bool
-    requires { AtBallot board.now index.now s c sets }
-    ensures { result ≡ all_in (part c.item.content sets board.now) (member (own_contests board.now s)) }
+fn is_own(next: &Candidate, contests: &[u32]) -> bool
+    requires { (next.now.known.item.head.code ≡ ballot_type)
+        × (contests.now ≡ ballot_contests (format_of next.now.board.now) (item_at next.now)) }
+    ensures { result ≡ all_in contests.now (member (own_contests next.now.board.now next.now.state)) }
 {
-    let contests = words::part(board, c.item.content, sets);
-    if c.session == 0 {
+    let session = next.known.session;
+    if session == 0 {
         return sets::is_empty(contests);
     }
-    let session = index::entry(board, index, s.items, c.session).item;
-    let own = words::part(board, session.content + Content::SESSION_CONTESTS, sets);
+    let item = next.entry(session).item;
+    let own = words::part(
+        next.board,
+        item.content + Content::SESSION_CONTESTS,
+        contests.len(),
+    );
     sets::is_within(contests, own)
 }
 
 // Whether the low 16 bits of the last word of each of n cryptograms of a size behind a set are zero.
-fn cryptograms_ok(board: &[u32], item: Item, sets: usize, size: usize, n: usize) -> bool
-    requires { (item.content + item.head.count ≤ length board.now) × (sets ≤ 8) × (1 ≤ size) × (size ≤ 34) × (n ≤ set_bits * sets) }
-    ensures { result ≡ cryptograms_ok sets size n (part item.content item.head.count board.now) }
+fn cryptograms_ok(content: &[u32], sets: usize, size: usize, n: usize) -> bool
+    requires { (sets ≤ 8) × (1 ≤ size) × (size ≤ 34) × (n ≤ set_bits * sets) }
+    ensures { result ≡ cryptograms_ok sets size n content.now }
 {
-    let mut k = n;
-    while k > 0 {
-        let last = word(board, item, sets + k * size - 1);
+    for k in (1..=n).rev() {
+        let last = word(content, sets + k * size - 1);
         if last % Range::CRYPTOGRAM != 0 {
             return false;
         }
-        k -= 1;
     }
     true
 }
