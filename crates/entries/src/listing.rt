@@ -61,17 +61,11 @@ pub fn ancestry(
 {
     // 1 oversize: more words than the limit
     if Limit::WORDS < submission.board.len() {
-        return Err(Refused {
-            refusal: Refusal::TooLarge,
-            items: 0,
-        });
+        return Err(Refused::after(Refusal::TooLarge, 0));
     }
     // 2 short sheet
     if is_short(index, ballots, list) {
-        return Err(Refused {
-            refusal: Refusal::ShortTable,
-            items: 0,
-        });
+        return Err(Refused::after(Refusal::ShortTable, 0));
     }
     list_audited(submission, number, index, ballots, list)
 }

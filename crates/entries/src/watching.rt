@@ -66,10 +66,7 @@ pub fn notes(
 {
     // 23 bad notes
     if notes::is_bad(submission.board, notes) {
-        return Err(Refused {
-            refusal: Refusal::BadNotes,
-            items: 0,
-        });
+        return Err(Refused::after(Refusal::BadNotes, 0));
     }
     hold_audited(submission, notes, index, ballots)
 }

@@ -7,6 +7,7 @@ ghost use Rattle.audit.specs.Outcome.{outcome_of};
 ghost use Rattle.entries.specs.Writing.{writing_outcome, exported_report, exported_bytes};
 
 use audit::Submission;
+use index::passed::Passed;
 use refusal::{Refusal, Refused};
 use report::Accepted;
 
@@ -34,12 +35,14 @@ pub fn export(
     ensures text { text.new ≡ text_after (writing_outcome submission.now index ballots text) text.old }
 {
     let accepted = audit::audit(submission, index, ballots)?;
-    match export::export_accepted(board, index, accepted.items, text) {
+    let passed = Passed {
+        board: submission.board,
+        index,
+        count: accepted.items as usize,
+    };
+    match export::export_accepted(&passed, text) {
         Some(bytes) => Ok(Exported { accepted, bytes }),
         // 2 short sheet
-        None => Err(Refused {
-            refusal: Refusal::ShortTable,
-            items: 0,
-        }),
+        None => Err(Refused::after(Refusal::ShortTable, 0)),
     }
 }
