@@ -19,8 +19,9 @@ use Rattle.refusal.specs.Number.{number_of}
 use Rattle.refusal.specs.declared.Refusal.{Refusal}
 use Rattle.refusal.proofs.Laws.{number-some}
 use Rattle.text.specs.Answer.{accepted_text, text_from, report_text}
-use Rattle.text.specs.Put.{Put}
-use Rattle.text.proofs.Placed.{put_then}
+use Rattle.text.specs.declared.writer.Writer.{Writer}
+use Rattle.text.specs.Put.{Writes}
+use Rattle.text.proofs.Placed.{writes_then}
 
 -- ---- from its lines
 
@@ -33,13 +34,13 @@ module _ (items mains ballots weight : ℕ) (table : List ℕ) where
   unfolding text_from accepted_text if◌then◌otherwise◌
   text_from-accepted = refl
 
-  pub put-refusal : {l m : List ℕ} {k : ℕ} (x : Refusal) → Put l 0 (refused_line (number_of x) items) m k
-      → Put l 0 (text_from (number_of x) items mains ballots weight table) m k
+  pub put-refusal : {u v : Writer} (x : Refusal) → Writes u (refused_line (number_of x) items) v
+      → Writes u (text_from (number_of x) items mains ballots weight table) v
   put-refusal x p = rw (text_from-refused (number_of x) (λ e. omega (arith, number-some x))) p
 
-  pub put-acceptance : {l m n : List ℕ} {j k : ℕ} → Put l 0 (accepted_line items mains ballots weight) m j
-      → Put m j (row_lines (take (ballot_row * ballots) table)) n k → Put l 0 (text_from 0 items mains ballots weight table) n k
-  put-acceptance p q = rw text_from-accepted (put_then p q)
+  pub put-acceptance : {u v w : Writer} → Writes u (accepted_line items mains ballots weight) v
+      → Writes v (row_lines (take (ballot_row * ballots) table)) w → Writes u (text_from 0 items mains ballots weight table) w
+  put-acceptance p q = rw text_from-accepted (writes_then p q)
 
 -- ---- of an outcome
 

@@ -8,9 +8,10 @@ use borrow.Author.Tests.{lt-ltb, le-ltb}
 use Rattle.std.specs.Fmt as std
 use Rattle.std.proofs.lemmas.Fmt.{decimal_by_steps}
 use Rattle.model.specs.Program.{space, digit, digits, decimal, spaced}
-use Rattle.text.specs.Put.{Put}
+use Rattle.text.specs.declared.writer.Writer.{Writer}
+use Rattle.text.specs.Put.{Writes}
 use Rattle.model.proofs.Decimal.{enough, digits_same, length-decimal}
-use Rattle.text.proofs.Placed.{put_then}
+use Rattle.text.proofs.Placed.{writes_then}
 
 -- a number behind a space
 pub spaced-one : (n : ℕ) → spaced (n ∷ []) ≡ space ∷ decimal n
@@ -52,5 +53,5 @@ decimal-is =
 
 -- ---- a number put into bytes
 
-pub put-spaced : {l o m : List ℕ} {i j k : ℕ} (n : ℕ) → Put l i (space ∷ []) o j → Put o j (decimal n) m k → Put l i (spaced (n ∷ [])) m k
-put-spaced n p q = rw spaced-one (put_then p q)
+pub put-spaced : {u v w : Writer} (n : ℕ) → Writes u (space ∷ []) v → Writes v (decimal n) w → Writes u (spaced (n ∷ [])) w
+put-spaced n p q = rw spaced-one (writes_then p q)

@@ -6,8 +6,9 @@ use mathlib.Core.List.{List, [], ◌∷◌, ◌++◌, append-nil, append_assoc}
 use lib.ListN.{length, length-append}
 use Rattle.model.specs.Program.{newline, space, refused_text, at_text, accepted_text, decimal, spaced, refused_line, accepted_line, row_lines}
 use Rattle.model.proofs.Decimal.{length-decimal}
-use Rattle.text.specs.Put.{Put}
-use Rattle.text.proofs.Placed.{put_then}
+use Rattle.text.specs.declared.writer.Writer.{Writer}
+use Rattle.text.specs.Put.{Writes}
+use Rattle.text.proofs.Placed.{writes_then}
 use Rattle.text.proofs.Digits.{length-word, length-pair}
 
 -- numbers behind spaces, one by one
@@ -34,19 +35,19 @@ row-parts ballot voter weight = simp (spaced-more, append-nil, append_assoc)
 
 -- ---- a line put part by part
 
-module _ {l l₁ l₂ l₃ l₄ : List ℕ} {i i₁ i₂ i₃ i₄ : ℕ} where
-  pub put-row : (ballot voter weight : ℕ) → Put l i (decimal ballot) l₁ i₁ → Put l₁ i₁ (spaced (voter ∷ [])) l₂ i₂
-      → Put l₂ i₂ (spaced (weight ∷ [])) l₃ i₃ → Put l₃ i₃ (newline ∷ []) l₄ i₄ → Put l i (row_lines (ballot ∷ voter ∷ weight ∷ [])) l₄ i₄
-  put-row ballot voter weight p p₁ p₂ p₃ = rw row-parts (put_then (put_then (put_then p p₁) p₂) p₃)
+module _ {u u₁ u₂ u₃ u₄ : Writer} where
+  pub put-row : (ballot voter weight : ℕ) → Writes u (decimal ballot) u₁ → Writes u₁ (spaced (voter ∷ [])) u₂
+      → Writes u₂ (spaced (weight ∷ [])) u₃ → Writes u₃ (newline ∷ []) u₄ → Writes u (row_lines (ballot ∷ voter ∷ weight ∷ [])) u₄
+  put-row ballot voter weight p p₁ p₂ p₃ = rw row-parts (writes_then (writes_then (writes_then p p₁) p₂) p₃)
 
-  pub put_refused : {l₅ : List ℕ} {i₅ : ℕ} (n k : ℕ) → Put l i refused_text l₁ i₁ → Put l₁ i₁ (spaced (n ∷ [])) l₂ i₂
-      → Put l₂ i₂ (space ∷ at_text) l₃ i₃ → Put l₃ i₃ (spaced (k ∷ [])) l₄ i₄ → Put l₄ i₄ (newline ∷ []) l₅ i₅ → Put l i (refused_line n k) l₅ i₅
-  put_refused n k p p₁ p₂ p₃ p₄ = rw refused-parts (put_then (put_then (put_then (put_then p p₁) p₂) p₃) p₄)
+  pub put_refused : {u₅ : Writer} (n k : ℕ) → Writes u refused_text u₁ → Writes u₁ (spaced (n ∷ [])) u₂
+      → Writes u₂ (space ∷ at_text) u₃ → Writes u₃ (spaced (k ∷ [])) u₄ → Writes u₄ (newline ∷ []) u₅ → Writes u (refused_line n k) u₅
+  put_refused n k p p₁ p₂ p₃ p₄ = rw refused-parts (writes_then (writes_then (writes_then (writes_then p p₁) p₂) p₃) p₄)
 
-  pub put-accepted : {l₅ l₆ : List ℕ} {i₅ i₆ : ℕ} (items mains ballots weight : ℕ) → Put l i accepted_text l₁ i₁
-      → Put l₁ i₁ (spaced (items ∷ [])) l₂ i₂ → Put l₂ i₂ (spaced (mains ∷ [])) l₃ i₃ → Put l₃ i₃ (spaced (ballots ∷ [])) l₄ i₄
-      → Put l₄ i₄ (spaced (weight ∷ [])) l₅ i₅ → Put l₅ i₅ (newline ∷ []) l₆ i₆ → Put l i (accepted_line items mains ballots weight) l₆ i₆
-  put-accepted items mains ballots weight p p₁ p₂ p₃ p₄ p₅ = rw accepted-parts (put_then (put_then (put_then (put_then (put_then p p₁) p₂) p₃) p₄) p₅)
+  pub put-accepted : {u₅ u₆ : Writer} (items mains ballots weight : ℕ) → Writes u accepted_text u₁
+      → Writes u₁ (spaced (items ∷ [])) u₂ → Writes u₂ (spaced (mains ∷ [])) u₃ → Writes u₃ (spaced (ballots ∷ [])) u₄
+      → Writes u₄ (spaced (weight ∷ [])) u₅ → Writes u₅ (newline ∷ []) u₆ → Writes u (accepted_line items mains ballots weight) u₆
+  put-accepted items mains ballots weight p p₁ p₂ p₃ p₄ p₅ = rw accepted-parts (writes_then (writes_then (writes_then (writes_then (writes_then p p₁) p₂) p₃) p₄) p₅)
 
 -- ---- how long they are
 

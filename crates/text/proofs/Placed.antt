@@ -6,7 +6,8 @@ use mathlib.Core.Path.{◌≡◌, refl, sym, ap, ◌∙◌}
 use mathlib.Core.List.{List, [], ◌∷◌, ◌++◌}
 use lib.ListN.{length, set, length-append}
 use lib.Seq.{sets, sets-eq, length-sets}
-use Rattle.text.specs.Put.{Put, Shown}
+use Rattle.text.specs.declared.writer.Writer.{Writer}
+use Rattle.text.specs.Put.{Put, Writes, Shown}
 
 sets-append : (l : List ℕ) (i : ℕ) (a b : List ℕ) → sets l i (a ++ b) ≡ sets (sets l i a) (i + length a) b
 sets-append l i [] b = rw add-zero
@@ -31,6 +32,10 @@ put_then {l} {m} {n} {i} {j} {k} {a} {b} p q = record {
   wrote = q.wrote ∙ rw (p.wrote, p.behind) (sym (sets-append l i a b));
   behind = q.behind ∙ rw (p.behind, length-append) (add_assoc i (length a) (length b));
 }
+
+-- a writer that wrote one text, then another
+pub writes_then : {u v w : Writer} {a b : List ℕ} → Writes u a v → Writes v b w → Writes u (a ++ b) w
+writes_then p q = record { put = put_then p.put q.put; same = q.same ∙ p.same; room = q.room ∙ p.room }
 
 -- text at the start
 pub put-start : {l m : List ℕ} {s : List ℕ} {k : ℕ} → Put l 0 s m k → Shown l s m k

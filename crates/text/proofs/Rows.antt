@@ -10,8 +10,9 @@ use Rattle.std.specs.Simd.{first_chunks}
 use Rattle.words.proofs.Runs.{get_or-chunks}
 use Rattle.model.specs.Audit.{ballot_row}
 use Rattle.model.specs.Program.{decimal, spaced, line, row_lines}
-use Rattle.text.specs.Put.{Put}
-use Rattle.text.proofs.Placed.{put_then}
+use Rattle.text.specs.declared.writer.Writer.{Writer}
+use Rattle.text.specs.Put.{Writes}
+use Rattle.text.proofs.Placed.{writes_then}
 use Rattle.text.proofs.Lines.{length-row}
 
 -- whole rows, then words
@@ -57,9 +58,9 @@ module _ (t : List ℕ) (k : ℕ) where
       (row_lines-append k (take (ballot_row * k) t) _ (simp length-take (omega arith)))
 
   -- one row more, in at most 64 bytes
-  pub put-row-more : {l m n : List ℕ} {at j e rows : ℕ} → k < rows → ballot_row * rows ≤ length t → ((i : ℕ) → get_or t i 0 < 2 ^ 32)
-      → Put l at (row_lines (take (ballot_row * k) t)) m j → j ≤ at + 64 * k → Put m j row_line n e
-      → (k + 1 ≤ rows) × (Put l at (row_lines (take (ballot_row * (k + 1)) t)) n e) × (e ≤ at + 64 * (k + 1))
+  pub put-row-more : {u v w : Writer} {rows : ℕ} → k < rows → ballot_row * rows ≤ length t → ((i : ℕ) → get_or t i 0 < 2 ^ 32)
+      → Writes u (row_lines (take (ballot_row * k) t)) v → v.at ≤ u.at + 64 * k → Writes v row_line w
+      → (Writes u (row_lines (take (ballot_row * (k + 1)) t)) w) × (w.at ≤ u.at + 64 * (k + 1))
   put-row-more less room small p most q =
       let row = length-row (get_or t (ballot_row * k) 0) (get_or t (ballot_row * k + 1) 0) (get_or t (ballot_row * k + 2) 0) (small _) (small _) (small _) in
-      (omega arith, rw (row_lines-more (omega arith)) (put_then p q), omega (arith, row, q.behind))
+      (rw (row_lines-more (omega arith)) (writes_then p q), omega (arith, row, q.put.behind))

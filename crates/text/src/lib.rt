@@ -9,10 +9,11 @@ ghost use Rattle.text.specs.Put.{Shown};
 
 use line::LINE;
 use report::Report;
+use writer::Writer;
 
 pub mod line;
-pub mod put;
 pub mod size;
+pub mod writer;
 
 // Writes the text of a report, and gives its length. The ballot table's first rows are those of the ballots.
 pub fn text_of(out: &mut [u8], report: &Report, table: &[u32]) -> usize
@@ -20,17 +21,22 @@ pub fn text_of(out: &mut [u8], report: &Report, table: &[u32]) -> usize
     requires rows { ballot_row * (reported report.now).ballots ≤ length table.now }
     ensures { Shown out.old (report_text (reported report.now) table.now) out.new result }
 {
+    let mut text = Writer { out, at: 0 };
     match report {
         Ok(accepted) => {
-            let end = line::accepted_line(
-                out,
+            line::accepted_line(
+                &mut text,
                 accepted.items,
                 accepted.mains,
                 accepted.ballots,
                 accepted.weight,
             );
-            line::row_lines(out, end, table, accepted.ballots as usize)
+            line::row_lines(&mut text, table, accepted.ballots as usize);
+            text.at
         }
-        Err(refused) => line::refused_line(out, u32::from(refused.refusal), refused.items),
+        Err(refused) => {
+            line::refused_line(&mut text, u32::from(refused.refusal), refused.items);
+            text.at
+        }
     }
 }

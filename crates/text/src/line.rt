@@ -1,10 +1,10 @@
-// The lines that are printed. Each function gives the place behind its lines.
+// The lines that are printed.
 ghost use Rattle.std.specs.Prelude.{[], ◌∷◌, ◌+◌, ◌*◌, ◌≤◌, length, take};
 ghost use Rattle.model.specs.Audit.{ballot_row};
 ghost use Rattle.model.specs.Program.{refused_line, accepted_line, row_lines};
-ghost use Rattle.text.specs.Put.{Put};
+ghost use Rattle.text.specs.Put.{Writes};
 
-use crate::put;
+use crate::writer::Writer;
 
 // Room for any line. The longest is `accepted` with three words and a number of 64 bits: 63 bytes.
 pub const LINE: usize = 64;
@@ -13,51 +13,49 @@ pub const LINE: usize = 64;
 const ROW: usize = 3;
 
 // `refused`, number, `at`, items passed.
-pub fn refused_line(out: &mut [u8], number: u32, items: u32) -> usize
-    requires { LINE ≤ length out.old }
-    ensures { Put out.old 0 (refused_line number items) out.new result }
+pub fn refused_line(text: &mut Writer, number: u32, items: u32)
+    requires { text.old.at + LINE ≤ length text.old.out.now }
+    ensures { Writes text.old (refused_line number items) text.new }
 {
-    let word = put::bytes(out, 0, b"refused");
-    let first = put::spaced(out, word, number as u64);
-    let at = put::bytes(out, first, b" at");
-    let second = put::spaced(out, at, items as u64);
-    put::byte(out, second, b'\n')
+    text.bytes(b"refused");
+    text.spaced(number as u64);
+    text.bytes(b" at");
+    text.spaced(items as u64);
+    text.byte(b'\n');
 }
 
 // `accepted`, items, main items, ballots, weight.
-pub fn accepted_line(out: &mut [u8], items: u32, mains: u32, ballots: u32, weight: u64) -> usize
-    requires { LINE ≤ length out.old }
-    ensures { Put out.old 0 (accepted_line items mains ballots weight) out.new result }
+pub fn accepted_line(text: &mut Writer, items: u32, mains: u32, ballots: u32, weight: u64)
+    requires { text.old.at + LINE ≤ length text.old.out.now }
+    ensures { Writes text.old (accepted_line items mains ballots weight) text.new }
 {
-    let word = put::bytes(out, 0, b"accepted");
-    let first = put::spaced(out, word, items as u64);
-    let second = put::spaced(out, first, mains as u64);
-    let third = put::spaced(out, second, ballots as u64);
-    let fourth = put::spaced(out, third, weight);
-    put::byte(out, fourth, b'\n')
+    text.bytes(b"accepted");
+    text.spaced(items as u64);
+    text.spaced(mains as u64);
+    text.spaced(ballots as u64);
+    text.spaced(weight);
+    text.byte(b'\n');
 }
 
 // The three words of a row of the ballot table.
-fn row_line(out: &mut [u8], at: usize, ballot: u32, voter: u32, weight: u32) -> usize
-    requires { at + LINE ≤ length out.old }
-    ensures { Put out.old at (row_lines (ballot ∷ voter ∷ weight ∷ [])) out.new result }
+fn row_line(text: &mut Writer, ballot: u32, voter: u32, weight: u32)
+    requires { text.old.at + LINE ≤ length text.old.out.now }
+    ensures { Writes text.old (row_lines (ballot ∷ voter ∷ weight ∷ [])) text.new }
 {
-    let first = put::decimal(out, at, ballot as u64);
-    let second = put::spaced(out, first, voter as u64);
-    let third = put::spaced(out, second, weight as u64);
-    put::byte(out, third, b'\n')
+    text.decimal(ballot as u64);
+    text.spaced(voter as u64);
+    text.spaced(weight as u64);
+    text.byte(b'\n');
 }
 
 // A line for each of the first rows of the ballot table.
-pub fn row_lines(out: &mut [u8], at: usize, table: &[u32], rows: usize) -> usize
-    requires room { at + LINE * rows ≤ length out.old }
+pub fn row_lines(text: &mut Writer, table: &[u32], rows: usize)
+    requires room { text.old.at + LINE * rows ≤ length text.old.out.now }
     requires rows { ballot_row * rows ≤ length table.now }
-    ensures { Put out.old at (row_lines (take (ballot_row * rows) table.now)) out.new result }
+    ensures { Writes text.old (row_lines (take (ballot_row * rows) table.now)) text.new }
 {
     let (words, _) = table[..ROW * rows].as_chunks::<ROW>();
-    let mut end = at;
     for row in words {
-        end = row_line(out, end, row[0], row[1], row[2]);
+        row_line(text, row[0], row[1], row[2]);
     }
-    end
 }

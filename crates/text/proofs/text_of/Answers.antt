@@ -3,6 +3,7 @@ use native.Mathlib.Omega.{arith}
 use Rattle.text.proofs.Placed.{put-start}
 use Rattle.text.proofs.Lines.{length-accepted}
 use Rattle.text.proofs.Answer.{put-refusal, put-acceptance}
+use borrow.Author.Rules.{rules}
 use Rattle.text.proofs.text_of.Goals as goal
 
 pub row_lines-requires : goal.row_lines-requires
@@ -17,10 +18,14 @@ row_lines-requires c =
 pub returns-in-Ok : goal.returns-in-Ok
 returns-in-Ok c =
     let a = c.in-Ok.accepted in
-    rw c.in-Ok.is (put-start (put-acceptance a.items a.mains a.ballots a.weight c.args.table.now c.accepted_line-end.ensures c.row_lines.ensures))
+    let w = put-acceptance a.items a.mains a.ballots a.weight c.args.table.now c.accepted_line.ensures c.row_lines.ensures in
+    let shown = put-start w.put in
+    rw c.in-Ok.is (search (rules, shown))
 
 pub returns-in-Err : goal.returns-in-Err
 returns-in-Err c =
     let r = c.in-Err.refused in
     let line = rw c.from.ensures at c.refused_line.ensures in
-    rw c.in-Err.is (put-start (put-refusal r.items 0 0 0 c.args.table.now r.refusal line))
+    let w = put-refusal r.items 0 0 0 c.args.table.now r.refusal line in
+    let shown = put-start w.put in
+    rw c.in-Err.is (search (rules, shown))

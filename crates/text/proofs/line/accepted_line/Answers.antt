@@ -16,17 +16,17 @@ lengths : (items mains ballots weight : ℕ) → items < 2 ^ 32 → mains < 2 ^ 
     × (length (spaced (weight ∷ [])) ≤ 21)
 lengths items mains ballots weight i m b w = (length-word items i, length-word mains m, length-word ballots b, length-pair weight w)
 
-pub spaced-first-requires : goal.spaced-first-requires
-spaced-first-requires c = omega (arith, lengths c.args.items c.args.mains c.args.ballots c.args.weight (omega arith) (omega arith) (omega arith) (omega arith))
+pub spaced-requires : goal.spaced-requires
+spaced-requires c = omega (arith, lengths c.args.items c.args.mains c.args.ballots c.args.weight (omega arith) (omega arith) (omega arith) (omega arith))
 
-pub spaced-second-requires : goal.spaced-second-requires
-spaced-second-requires c = omega (arith, lengths c.args.items c.args.mains c.args.ballots c.args.weight (omega arith) (omega arith) (omega arith) (omega arith))
+pub spaced-requires-2 : goal.spaced-requires-2
+spaced-requires-2 c = omega (arith, lengths c.args.items c.args.mains c.args.ballots c.args.weight (omega arith) (omega arith) (omega arith) (omega arith))
 
-pub spaced-third-requires : goal.spaced-third-requires
-spaced-third-requires c = omega (arith, lengths c.args.items c.args.mains c.args.ballots c.args.weight (omega arith) (omega arith) (omega arith) (omega arith))
+pub spaced-requires-3 : goal.spaced-requires-3
+spaced-requires-3 c = omega (arith, lengths c.args.items c.args.mains c.args.ballots c.args.weight (omega arith) (omega arith) (omega arith) (omega arith))
 
-pub spaced-fourth-requires : goal.spaced-fourth-requires
-spaced-fourth-requires c = omega (arith, lengths c.args.items c.args.mains c.args.ballots c.args.weight (omega arith) (omega arith) (omega arith) (omega arith))
+pub spaced-requires-4 : goal.spaced-requires-4
+spaced-requires-4 c = omega (arith, lengths c.args.items c.args.mains c.args.ballots c.args.weight (omega arith) (omega arith) (omega arith) (omega arith))
 
 pub byte-requires : goal.byte-requires
 byte-requires c = omega (arith, lengths c.args.items c.args.mains c.args.ballots c.args.weight (omega arith) (omega arith) (omega arith) (omega arith))
@@ -35,4 +35,4 @@ pub returns : goal.returns
 returns c =
     let x = c.args in
     put-accepted x.items x.mains x.ballots x.weight
-    c.bytes-word.ensures c.spaced-first.ensures c.spaced-second.ensures c.spaced-third.ensures c.spaced-fourth.ensures c.byte.ensures
+    c.bytes.ensures c.spaced.ensures c.spaced-2.ensures c.spaced-3.ensures c.spaced-4.ensures c.byte.ensures

@@ -12,14 +12,14 @@ use Rattle.text.proofs.line.refused_line.Goals as goal
 lengths : (number items : ℕ) → number < 2 ^ 32 → items < 2 ^ 32 → (length (spaced (number ∷ [])) ≤ 11) × (length (spaced (items ∷ [])) ≤ 11)
 lengths number items n i = (length-word number n, length-word items i)
 
-pub spaced-first-requires : goal.spaced-first-requires
-spaced-first-requires c = omega (arith, lengths c.args.number c.args.items (omega arith) (omega arith))
+pub spaced-requires : goal.spaced-requires
+spaced-requires c = omega (arith, lengths c.args.number c.args.items (omega arith) (omega arith))
 
-pub bytes-at-requires : goal.bytes-at-requires
-bytes-at-requires c = omega (arith, lengths c.args.number c.args.items (omega arith) (omega arith))
+pub bytes-requires-2 : goal.bytes-requires-2
+bytes-requires-2 c = omega (arith, lengths c.args.number c.args.items (omega arith) (omega arith))
 
-pub spaced-second-requires : goal.spaced-second-requires
-spaced-second-requires c = omega (arith, lengths c.args.number c.args.items (omega arith) (omega arith))
+pub spaced-requires-2 : goal.spaced-requires-2
+spaced-requires-2 c = omega (arith, lengths c.args.number c.args.items (omega arith) (omega arith))
 
 pub byte-requires : goal.byte-requires
 byte-requires c = omega (arith, lengths c.args.number c.args.items (omega arith) (omega arith))
@@ -27,4 +27,4 @@ byte-requires c = omega (arith, lengths c.args.number c.args.items (omega arith)
 pub returns : goal.returns
 returns c =
     let x = c.args in
-    put_refused x.number x.items c.bytes-word.ensures c.spaced-first.ensures c.bytes-at.ensures c.spaced-second.ensures c.byte.ensures
+    put_refused x.number x.items c.bytes.ensures c.spaced.ensures c.bytes-2.ensures c.spaced-2.ensures c.byte.ensures

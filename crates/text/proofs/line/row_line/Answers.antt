@@ -14,14 +14,14 @@ lengths : (ballot voter weight : ℕ) → ballot < 2 ^ 32 → voter < 2 ^ 32 →
     (length (decimal ballot) ≤ 10) × (length (spaced (voter ∷ [])) ≤ 11) × (length (spaced (weight ∷ [])) ≤ 11)
 lengths ballot voter weight b v w = (length-decimal 9 ballot (omega arith), length-word voter v, length-word weight w)
 
-pub decimal-first-requires : goal.decimal-first-requires
-decimal-first-requires c = omega (arith, lengths c.args.ballot c.args.voter c.args.weight (omega arith) (omega arith) (omega arith))
+pub spaced-requires : goal.spaced-requires
+spaced-requires c = omega (arith, lengths c.args.ballot c.args.voter c.args.weight (omega arith) (omega arith) (omega arith))
 
-pub spaced-second-requires : goal.spaced-second-requires
-spaced-second-requires c = omega (arith, lengths c.args.ballot c.args.voter c.args.weight (omega arith) (omega arith) (omega arith))
+pub spaced-requires-2 : goal.spaced-requires-2
+spaced-requires-2 c = omega (arith, lengths c.args.ballot c.args.voter c.args.weight (omega arith) (omega arith) (omega arith))
 
-pub spaced-third-requires : goal.spaced-third-requires
-spaced-third-requires c = omega (arith, lengths c.args.ballot c.args.voter c.args.weight (omega arith) (omega arith) (omega arith))
+pub decimal-requires : goal.decimal-requires
+decimal-requires c = omega (arith, lengths c.args.ballot c.args.voter c.args.weight (omega arith) (omega arith) (omega arith))
 
 pub byte-requires : goal.byte-requires
 byte-requires c = omega (arith, lengths c.args.ballot c.args.voter c.args.weight (omega arith) (omega arith) (omega arith))
@@ -29,4 +29,4 @@ byte-requires c = omega (arith, lengths c.args.ballot c.args.voter c.args.weight
 pub returns : goal.returns
 returns c =
     let x = c.args in
-    put-row x.ballot x.voter x.weight c.decimal-first.ensures c.spaced-second.ensures c.spaced-third.ensures c.byte.ensures
+    put-row x.ballot x.voter x.weight c.decimal.ensures c.spaced.ensures c.spaced-2.ensures c.byte.ensures

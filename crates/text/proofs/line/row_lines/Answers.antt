@@ -1,5 +1,5 @@
 -- `text::line::row_lines` meets its contract. The invariant: the lines of the first rows are put. Assumes nothing.
-use mathlib.Core.Path.{refl, ◌∙◌}
+use mathlib.Core.Path.{refl}
 use Rattle.model.specs.Program.{row_lines}
 use Rattle.text.proofs.Placed.{put-none}
 use Rattle.text.proofs.Rows.{row-word, put-row-more}
@@ -12,7 +12,9 @@ use Rattle.text.proofs.line.row_lines.Goals as goal
 
 pub loop-row-init : goal.loop-row-init
 unfolding row_lines
-loop-row-init c = record { put = put-none c.args.out.now c.args.at c.args.at (omega arith) refl; most = search rules; length = search rules }
+loop-row-init c =
+    let u = c.args.text.now in
+    record { put = record { put = put-none u.out.now u.at u.at (omega arith) refl; same = refl; room = refl }; most = search rules }
 
 pub loop-row-preserved : goal.loop-row-preserved
 loop-row-preserved c =
@@ -21,7 +23,6 @@ loop-row-preserved c =
     let words = c.as_chunks.result.0.now in
     let less : k < c.args.rows = omega (arith, c.as_chunks.ensures.front_len, length-take (3 * c.args.rows) t) in
     let word = λ (j : ℕ) (b : j < 3). row-word t words _ c.args.rows k j c.as_chunks.ensures.front (omega (arith, c.as_chunks.ensures.front_len)) less b in
-    let row = c.row_line-end in
-    let line = rw (word 0 (omega arith), word 1 (omega arith), word 2 (omega arith), add-zero) at row.ensures in
+    let line = rw (word 0 (omega arith), word 1 (omega arith), word 2 (omega arith), add-zero) at c.row_line.ensures in
     let more = put-row-more t k less c.requires.rows (λ i. (c.type_inv.table i).fits) c.loop-row.invariant.put c.loop-row.invariant.most line in
-    record { put = more.1; most = more.2; length = row.auto.out ∙ c.loop-row.invariant.length }
+    record { put = more.0; most = more.1 }

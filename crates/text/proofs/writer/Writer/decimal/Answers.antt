@@ -1,9 +1,9 @@
--- `text::put::decimal` meets its contract. Assumes nothing.
+-- `Writer::decimal` meets its contract: the library's digits are the model's. Assumes nothing.
 use mathlib.Core.Path.{ap, ◌∙◌}
 use native.Mathlib.Omega.{arith}
 use lib.ListN.{length}
 use Rattle.text.proofs.Digits.{decimal-is}
-use Rattle.text.proofs.put.decimal.Goals as goal
+use Rattle.text.proofs.writer.Writer.decimal.Goals as goal
 
 pub bytes-requires : goal.bytes-requires
 bytes-requires c =
