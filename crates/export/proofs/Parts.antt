@@ -19,8 +19,9 @@ use Rattle.format.specs.declared.item.Item.{Item}
 use Rattle.format.specs.Format.{format_of}
 use Rattle.format.specs.Layout.{item_of, item_on}
 use Rattle.format.proofs.Places.{content-is, parent_is, previous-is, address_is}
-use Rattle.text.specs.Put.{Put}
-use Rattle.text.proofs.Placed.{length-put, put_then}
+use Rattle.text.specs.declared.writer.Writer.{Writer}
+use Rattle.text.specs.Put.{Writes}
+use Rattle.text.proofs.Placed.{writes_then}
 use Rattle.export.specs.Lines.{numbers_text, strings_text, Whole}
 
 -- ---- a text in parts
@@ -39,20 +40,20 @@ length-joined [] = refl
 length-joined (a ∷ []) = omega arith
 length-joined (a ∷ b ∷ texts) = length-append a (joined (b ∷ texts)) ∙ ap (λ (n : ℕ). length a + n) (length-joined (b ∷ texts))
 
--- the bytes l have room for some texts, one behind the other, from place i on
-pub record Room (l : List ℕ) (i : ℕ) (texts : List (List ℕ)) : Type 0 where
-  pub fits : i + lengths texts ≤ length l
+-- a writer has room for some texts, one behind the other
+pub record Room (u : Writer) (texts : List (List ℕ)) : Type 0 where
+  pub fits : u.at + lengths texts ≤ length u.out.now
 
-pub room : {l text : List ℕ} {i : ℕ} {texts : List (List ℕ)} → text ≡ joined texts → i + length text ≤ length l → Room l i texts
-room {l} {text} {i} {texts} e h = record { fits = omega (arith, ap length e, length-joined texts) }
+pub room : {u : Writer} {text : List ℕ} {texts : List (List ℕ)} → text ≡ joined texts → u.at + length text ≤ length u.out.now → Room u texts
+room {u} {text} {texts} e h = record { fits = omega (arith, ap length e, length-joined texts) }
 
-module _ {l a : List ℕ} {i : ℕ} {texts : List (List ℕ)} (r : Room l i (a ∷ texts)) where
+module _ {u : Writer} {a : List ℕ} {texts : List (List ℕ)} (r : Room u (a ∷ texts)) where
   -- for the first, and behind it for the others
-  pub first : i + length a ≤ length l
+  pub first : u.at + length a ≤ length u.out.now
   first = omega (arith, r.fits)
 
-  pub rest : {m : List ℕ} {j : ℕ} → Put l i a m j → Room m j texts
-  rest p = record { fits = omega (arith, r.fits, length-put p, p.behind) }
+  pub rest : {v : Writer} → Writes u a v → Room v texts
+  rest p = record { fits = omega (arith, r.fits, p.room, p.put.behind) }
 
 -- ---- the members with numbers
 
@@ -107,8 +108,8 @@ string_parts board item =
     ∷ []
 
 -- what is asked to put a string where there is room
-pub string-room : {l : List ℕ} {i : ℕ} {texts : List (List ℕ)} (key words : List ℕ) → Room l i (string key words ∷ texts)
-    → i + length key + word_digits * length words ≤ length l
+pub string-room : {u : Writer} {texts : List (List ℕ)} (key words : List ℕ) → Room u (string key words ∷ texts)
+    → u.at + length key + word_digits * length words ≤ length u.out.now
 string-room key words r = omega (arith, first r, length-append key (hex_words words), length-hex_words words)
 
 -- the words of an item are on the board
@@ -151,13 +152,13 @@ module _ {board : List ℕ} {item : Item} (w : Whole board item) where
   pub strings-parts : strings_text (item_on board item.place) ≡ joined (string_parts board item)
   strings-parts = strings-at board item.place ∙ ap (λ (i : Item). joined (string_parts board i)) (sym w.same)
 
-  pub put-strings : {l l₁ l₂ l₃ l₄ l₅ : List ℕ} {i i₁ i₂ i₃ i₄ i₅ : ℕ}
-      → Put l i (string parent_key (from_to item.parent (item.parent + width item) board)) l₁ i₁
-      → Put l₁ i₁ (string previous_key (from_to item.previous (item.previous + width item) board)) l₂ i₂
-      → Put l₂ i₂ (string address_key (from_to item.address item.end board)) l₃ i₃
-      → Put l₃ i₃ (string content_key (from_to item.content (item.content + item.head.count) board)) l₄ i₄
-      → Put l₄ i₄ closing l₅ i₅ → Put l i (strings_text (item_on board item.place)) l₅ i₅
-  put-strings p p₁ p₂ p₃ p₄ = rw strings-parts (put_then p (put_then p₁ (put_then p₂ (put_then p₃ p₄))))
+  pub put-strings : {u u₁ u₂ u₃ u₄ u₅ : Writer}
+      → Writes u (string parent_key (from_to item.parent (item.parent + width item) board)) u₁
+      → Writes u₁ (string previous_key (from_to item.previous (item.previous + width item) board)) u₂
+      → Writes u₂ (string address_key (from_to item.address item.end board)) u₃
+      → Writes u₃ (string content_key (from_to item.content (item.content + item.head.count) board)) u₄
+      → Writes u₄ closing u₅ → Writes u (strings_text (item_on board item.place)) u₅
+  put-strings p p₁ p₂ p₃ p₄ = rw strings-parts (writes_then p (writes_then p₁ (writes_then p₂ (writes_then p₃ p₄))))
 
 -- ---- a line
 

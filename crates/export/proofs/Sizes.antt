@@ -1,6 +1,6 @@
 -- Laws of lengths: the digits of a number, the line of an item from what the code knows of it, and how many bytes a line has at most.
 -- Paper: request (xi). Assumes nothing.
-use Prim.Native.Nat.{ℕ, ◌+◌, ◌*◌, ◌/◌, ◌^◌, ◌≤◌, ◌<◌}
+use Prim.Native.Nat.{ℕ, ◌+◌, ◌*◌, ◌^◌, ◌≤◌, ◌<◌}
 use native.Mathlib.Omega.{arith}
 use mathlib.Core.Path.{◌≡◌, ap, ◌∙◌}
 use mathlib.Core.List.{List}
@@ -14,7 +14,6 @@ use Rattle.model.specs.Sound.{Shaped}
 use Rattle.model.proofs.Parts.{part-two}
 use Rattle.model.proofs.Parsing.{shaped-at}
 use Rattle.model.proofs.Decimal.{length-decimal}
-use Rattle.text.proofs.Digits.{length-one, length_more}
 use Rattle.exporting.specs.Export.{line_of}
 use Rattle.exporting.specs.Reading.{AreWords}
 use Rattle.exporting.proofs.Text.{line-length}
@@ -25,19 +24,6 @@ use Rattle.format.specs.Layout.{item_of, item_on}
 use Rattle.format.proofs.Traits.{sizes}
 use Rattle.export.specs.Lines.{Whole, line_limit}
 use Rattle.export.proofs.Parts.{width, stands, width-board}
-
--- ---- the digits of a number, counted from the last
-
--- so many are counted, and those of the rest are left
-module _ (n rest count : ℕ) (so_far : count + length (decimal rest) ≡ 1 + length (decimal n)) where
-  pub count-few : n < 2 ^ 64 → count ≤ 21
-  count-few l = omega (arith, length-decimal 19 n (omega arith))
-
-  pub count-more : 10 ≤ rest → count + 1 + length (decimal (rest / 10)) ≡ 1 + length (decimal n)
-  count-more l = omega (arith, length_more rest l)
-
-  pub count-all : rest < 10 → count ≡ length (decimal n)
-  count-all l = omega (arith, length-one rest l)
 
 -- ---- the line of an item
 

@@ -1,5 +1,5 @@
 -- Laws of the export in a buffer: written item by item, and what is answered by the room that there is. Paper: request (xi). Assumes nothing.
-use Prim.Native.Nat.{ℕ, ◌+◌, ◌≤◌, ◌<◌, zero-le}
+use Prim.Native.Nat.{ℕ, ◌+◌, ◌≤◌, ◌<◌}
 use native.Mathlib.Omega.{arith}
 use mathlib.Core.Path.{◌≡◌, refl, ap, ◌∙◌}
 use mathlib.Core.List.{List, []}
@@ -11,37 +11,37 @@ use Rattle.model.specs.History.{History, entry}
 use Rattle.model.specs.Audit.{accepted}
 use Rattle.model.specs.Above.{buffer_after}
 use Rattle.exporting.specs.Export.{export_text, export_outcome, text_after}
-use Rattle.text.specs.Put.{Put}
-use Rattle.text.proofs.Placed.{put-none, put_then, put-start, length-put}
+use Rattle.text.specs.declared.writer.Writer.{Writer}
+use Rattle.text.specs.Put.{Writes}
+use Rattle.text.proofs.Placed.{writes-none, writes_then, put-start}
 use Rattle.index.specs.Kept.{before}
 use Rattle.export.specs.Lines.{entry_text, fits_in, bytes_in}
 use Rattle.export.proofs.Items.{export_text-none, export_text-next, length-next, length-grows}
 
 -- an item with no text
-pub put-empty : (l : List ℕ) (at : ℕ) {text : List ℕ} → text ≡ [] → at + length text ≤ length l → Put l at text l at
-put-empty l at q room = rw q (put-none l at at (omega arith) refl)
+pub put-empty : (u : Writer) {text : List ℕ} → text ≡ [] → u.at + length text ≤ length u.out.now → Writes u text u
+put-empty u q room = rw q (writes-none u (omega arith))
 
 -- ---- item by item
 
-pub put-begins : (board text : List ℕ) → Put text 0 (export_text (before board 0)) text 0
-put-begins board text = rw export_text-none (put-none text 0 0 zero-le refl)
+pub put-begins : (board : List ℕ) (u : Writer) → u.at ≡ 0 → Writes u (export_text (before board 0)) u
+put-begins board u e = rw export_text-none (writes-none u (omega arith))
 
-module _ (board : List ℕ) (items : ℕ) {done at : ℕ} {text₀ text : List ℕ} (so_far : Put text₀ 0 (export_text (before board done)) text at) where
+module _ (board : List ℕ) (items : ℕ) {done : ℕ} {u v : Writer} (start : u.at ≡ 0) (so_far : Writes u (export_text (before board done)) v) where
   module _ (less : done < items) where
     -- where there is room for all, there is for one item more
-    pub put-room : length (export_text (before board items)) ≤ length text₀
-        → at + length (entry_text (entry (before board items) (done + 1))) ≤ length text
+    pub put-room : length (export_text (before board items)) ≤ length u.out.now
+        → v.at + length (entry_text (entry (before board items) (done + 1))) ≤ length v.out.now
     put-room room =
-        omega (arith, length-next board items done less, length-grows board (done + 1) items (omega arith), length-put so_far, so_far.behind)
+        omega (arith, length-next board items done less, length-grows board (done + 1) items (omega arith), so_far.room, so_far.put.behind)
 
-    pub put_item : {text' : List ℕ} {end : ℕ} → Put text at (entry_text (entry (before board items) (done + 1))) text' end
-        → (done + 1 ≤ items) × Put text₀ 0 (export_text (before board (done + 1))) text' end
-    put_item p = (omega arith, rw (export_text-next board items done less) (put_then so_far p))
+    pub put_item : {w : Writer} → Writes v (entry_text (entry (before board items) (done + 1))) w → Writes u (export_text (before board (done + 1))) w
+    put_item p = rw (export_text-next board items done less) (writes_then so_far p)
 
-  pub put-items : done ≡ items → text ≡ text_after (accepted (before board items)) text₀
+  pub put-items : done ≡ items → v.out.now ≡ text_after (accepted (before board items)) u.out.now
   unfolding buffer_after
   put-items q =
-      let shown = put-start so_far in
+      let shown = put-start (rw start at so_far.put) in
       shown.bytes ∙ rw (shown.end, q)
 
 -- ---- by the room

@@ -7,27 +7,28 @@ ghost use Rattle.model.specs.History.{entry};
 ghost use Rattle.model.specs.Audit.{accepted};
 ghost use Rattle.exporting.specs.Export.{export_text, export_outcome, text_after};
 ghost use Rattle.index.specs.Passed.{history_of};
-ghost use Rattle.text.specs.Put.{Put};
+ghost use Rattle.text.specs.Put.{Writes};
 ghost use Rattle.export.specs.Lines.{entry_text, bytes_in};
 
 use format::head::Head;
 use index::passed::Passed;
+use text::writer::Writer;
 
 pub mod hex;
 pub mod line;
 pub mod size;
 
-// Writes the line of the item after the first done, if it is a main item, and gives the place behind it.
-fn put_next(out: &mut [u8], at: usize, passed: &Passed, done: usize) -> usize
+// Writes the line of the item after the first done, if it is a main item.
+fn put_next(out: &mut Writer, passed: &Passed, done: usize)
     requires more { done < passed.now.count }
-    requires done_in_bounds { at + length (entry_text (entry (history_of passed.now) (done + 1))) ≤ length out.old }
-    ensures { Put out.old at (entry_text (entry (history_of passed.now) (done + 1))) out.new result }
+    requires room { out.old.at + length (entry_text (entry (history_of passed.now) (done + 1))) ≤ length out.old.out.now }
+    ensures { Writes out.old (entry_text (entry (history_of passed.now) (done + 1))) out.new }
 {
     let item = passed.entry(done + 1).item;
     if item.head.kind != Head::MAIN {
-        return at;
+        return;
     }
-    line::put_line(out, at, passed.board, item)
+    line::put_line(out, passed.board, item);
 }
 
 // Writes the line of each main item, where there is room for all.
@@ -35,9 +36,9 @@ fn put_all(passed: &Passed, text: &mut [u8])
     requires { length (export_text (history_of passed.now)) ≤ length text.old }
     ensures { text.new ≡ text_after (accepted (history_of passed.now)) text.old }
 {
-    let mut at = 0;
+    let mut out = Writer { out: text, at: 0 };
     for done in 0..passed.count {
-        at = put_next(text, at, passed, done);
+        put_next(&mut out, passed, done);
     }
 }
 

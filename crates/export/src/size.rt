@@ -11,6 +11,7 @@ use crate::hex;
 use format::head::Head;
 use format::item::Item;
 use index::passed::Passed;
+use itoa::Buffer;
 
 // Bytes of a line beside its digits: brackets, keys, quotes, colons, commas and the byte that ends it.
 const FRAME: usize = 70;
@@ -19,13 +20,7 @@ const FRAME: usize = 70;
 fn digits(n: u64) -> usize
     ensures { result ≡ length (decimal n) }
 {
-    let mut rest = n;
-    let mut count = 1;
-    while 10 <= rest {
-        rest = rest / 10;
-        count += 1;
-    }
-    count
+    Buffer::new().format(n).len()
 }
 
 // The line of an item.

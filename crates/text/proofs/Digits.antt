@@ -1,9 +1,9 @@
 -- Laws of decimal digits: how many there are, and the last of them. Assumes nothing.
 use Prim.Native.Nat.{ℕ, zero, suc, ◌+◌, ◌/◌, ◌%◌, ◌^◌, ◌≤◌, ◌<◌}
 use native.Mathlib.Omega.{arith}
-use mathlib.Core.Path.{◌≡◌, refl, sym, ap, ◌∙◌}
+use mathlib.Core.Path.{◌≡◌, refl, sym, ap}
 use mathlib.Core.List.{List, [], ◌∷◌, ◌++◌, append-nil}
-use lib.ListN.{length, length-append}
+use lib.ListN.{length}
 use borrow.Author.Tests.{lt-ltb, le-ltb}
 use Rattle.std.specs.Fmt as std
 use Rattle.std.proofs.lemmas.Fmt.{decimal_by_steps}
@@ -35,12 +35,6 @@ pub decimal-more : (n : ℕ) → 10 ≤ n → decimal n ≡ decimal (n / 10) ++ 
 unfolding digits
 decimal-more zero l = absurd (omega arith)
 decimal-more (suc k) l = rw (le-ltb (suc k) 10 l, digits_same k (suc k / 10) (suc k / 10) (omega (arith, enough k)) (enough (suc k / 10)))
-
-pub length-one : (n : ℕ) → n < 10 → length (decimal n) ≡ 1
-length-one n l = ap length (decimal-one n l)
-
-pub length_more : (n : ℕ) → 10 ≤ n → length (decimal n) ≡ length (decimal (n / 10)) + 1
-length_more n l = ap length (decimal-more n l) ∙ length-append (decimal (n / 10)) (digit (n % 10) ∷ [])
 
 pub length-spaced : (n : ℕ) → length (spaced (n ∷ [])) ≡ 1 + length (decimal n)
 length-spaced n = rw spaced-one (omega arith)

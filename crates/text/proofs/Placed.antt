@@ -33,6 +33,10 @@ put_then {l} {m} {n} {i} {j} {k} {a} {b} p q = record {
   behind = q.behind ∙ rw (p.behind, length-append) (add_assoc i (length a) (length b));
 }
 
+-- a writer that wrote nothing
+pub writes-none : (u : Writer) → u.at ≤ length u.out.now → Writes u [] u
+writes-none u h = record { put = put-none u.out.now u.at u.at h refl; same = refl; room = refl }
+
 -- a writer that wrote one text, then another
 pub writes_then : {u v w : Writer} {a b : List ℕ} → Writes u a v → Writes v b w → Writes u (a ++ b) w
 writes_then p q = record { put = put_then p.put q.put; same = q.same ∙ p.same; room = q.room ∙ p.room }

@@ -44,38 +44,38 @@ offset_bounds-board-item-4 c = omega (arith, stands c.requires.0)
 pub slice_bounds-content-end : goal.slice_bounds-content-end
 slice_bounds-content-end c = omega (arith, stands c.requires.0)
 
-pub put_string-previous_at-requires : goal.put_string-previous_at-requires
+pub put_string-requires : goal.put_string-requires
 unfolding bytes_of
-put_string-previous_at-requires c =
-    let all : Room c.args.out.now c.args.at (string_parts c.args.board.now c.args.item) = room (strings-parts c.requires.0) c.requires.1 in
+put_string-requires c =
+    let all : Room c.args.out.now (string_parts c.args.board.now c.args.item) = room (strings-parts c.requires.0) c.requires.1 in
     string-room parent_key _ all
 
-pub put_string-address_at-requires : goal.put_string-address_at-requires
+pub put_string-requires-2 : goal.put_string-requires-2
 unfolding bytes_of
-put_string-address_at-requires c =
-    let all : Room c.args.out.now c.args.at (string_parts c.args.board.now c.args.item) = room (strings-parts c.requires.0) c.requires.1 in
-    string-room previous_key _ (rest all c.put_string-previous_at.ensures)
+put_string-requires-2 c =
+    let all : Room c.args.out.now (string_parts c.args.board.now c.args.item) = room (strings-parts c.requires.0) c.requires.1 in
+    string-room previous_key _ (rest all c.put_string.ensures)
 
-pub put_string-content_at-requires : goal.put_string-content_at-requires
+pub put_string-requires-3 : goal.put_string-requires-3
 unfolding bytes_of
-put_string-content_at-requires c =
-    let all : Room c.args.out.now c.args.at (string_parts c.args.board.now c.args.item) = room (strings-parts c.requires.0) c.requires.1 in
-    string-room address_key _ (rest (rest all c.put_string-previous_at.ensures) c.put_string-address_at.ensures)
+put_string-requires-3 c =
+    let all : Room c.args.out.now (string_parts c.args.board.now c.args.item) = room (strings-parts c.requires.0) c.requires.1 in
+    string-room address_key _ (rest (rest all c.put_string.ensures) c.put_string-2.ensures)
 
-pub put_string-end-requires : goal.put_string-end-requires
+pub put_string-requires-4 : goal.put_string-requires-4
 unfolding bytes_of
-put_string-end-requires c =
-    let all : Room c.args.out.now c.args.at (string_parts c.args.board.now c.args.item) = room (strings-parts c.requires.0) c.requires.1 in
-    string-room content_key _ (rest (rest (rest all c.put_string-previous_at.ensures) c.put_string-address_at.ensures) c.put_string-content_at.ensures)
+put_string-requires-4 c =
+    let all : Room c.args.out.now (string_parts c.args.board.now c.args.item) = room (strings-parts c.requires.0) c.requires.1 in
+    string-room content_key _ (rest (rest (rest all c.put_string.ensures) c.put_string-2.ensures) c.put_string-3.ensures)
 
 pub bytes-requires : goal.bytes-requires
 unfolding bytes_of
 bytes-requires c =
-    let all : Room c.args.out.now c.args.at (string_parts c.args.board.now c.args.item) = room (strings-parts c.requires.0) c.requires.1 in
-    first (rest (rest (rest (rest all c.put_string-previous_at.ensures) c.put_string-address_at.ensures) c.put_string-content_at.ensures) c.put_string-end.ensures)
+    let all : Room c.args.out.now (string_parts c.args.board.now c.args.item) = room (strings-parts c.requires.0) c.requires.1 in
+    first (rest (rest (rest (rest all c.put_string.ensures) c.put_string-2.ensures) c.put_string-3.ensures) c.put_string-4.ensures)
 
 pub returns : goal.returns
 unfolding bytes_of
 returns c =
     put-strings c.requires.0
-    c.put_string-previous_at.ensures c.put_string-address_at.ensures c.put_string-content_at.ensures c.put_string-end.ensures c.bytes.ensures
+    c.put_string.ensures c.put_string-2.ensures c.put_string-3.ensures c.put_string-4.ensures c.bytes.ensures

@@ -1,7 +1,6 @@
 -- `text::line::row_lines` meets its contract. The invariant: the lines of the first rows are put. Assumes nothing.
-use mathlib.Core.Path.{refl}
 use Rattle.model.specs.Program.{row_lines}
-use Rattle.text.proofs.Placed.{put-none}
+use Rattle.text.proofs.Placed.{writes-none}
 use Rattle.text.proofs.Rows.{row-word, put-row-more}
 use Prim.Native.Nat.{ℕ, ◌*◌, ◌<◌}
 use native.Mathlib.Nat.{add-zero}
@@ -13,8 +12,7 @@ use Rattle.text.proofs.line.row_lines.Goals as goal
 pub loop-row-init : goal.loop-row-init
 unfolding row_lines
 loop-row-init c =
-    let u = c.args.text.now in
-    record { put = record { put = put-none u.out.now u.at u.at (omega arith) refl; same = refl; room = refl }; most = search rules }
+    record { put = writes-none c.args.text.now (omega arith); most = search rules }
 
 pub loop-row-preserved : goal.loop-row-preserved
 loop-row-preserved c =
