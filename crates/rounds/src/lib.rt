@@ -35,7 +35,7 @@ fn is_open_under(passed: &Passed, slot: u32, time: u64) -> bool
     requires { InForce (history_of passed.now) slot }
     ensures { result ≡ open_under time (history_of passed.now) slot }
 {
-    slot != 0 && is_open(passed.board, passed.entry(words::wide(slot)), time)
+    slot != 0 && is_open(passed.board, passed.entry(slot as usize), time)
 }
 
 // A set with the contests of the round in a slot, where it is open at a time; none for 0.
@@ -47,7 +47,7 @@ fn with_contests(passed: &Passed, slot: u32, time: u64, set: [u32; 8]) -> [u32; 
         return set;
     }
     let board = passed.board;
-    let e = passed.entry(words::wide(slot));
+    let e = passed.entry(slot as usize);
     if !is_open(board, e, time) {
         return set;
     }

@@ -30,7 +30,7 @@ use Rattle.model.proofs.Sets.{bit-zero}
 use Rattle.sets.proofs.Bits.{bit-or}
 use Rattle.state.specs.Standing.{any_below, union_below, numbered, round_at, slots, open_word, enabled_word}
 
--- ---- whether any number below n passes a test, and the union of the words of the numbers below n: a loop from 0 up
+-- ---- whether any number below n passes a test, and the union of the words of the numbers below n
 
 pub any_below-ext : (n : ℕ) (p q : ℕ → Bool) → ((j : ℕ) → j < n → p j ≡ q j) → any_below n p ≡ any_below n q
 unfolding any_below
@@ -41,24 +41,6 @@ any_below-false : (n : ℕ) (p : ℕ → Bool) → ((j : ℕ) → p j ≡ false)
 unfolding any_below
 any_below-false zero p out = refl
 any_below-false (suc n) p out = rw (out n) (any_below-false n p out)
-
-module _ (p : ℕ → Bool) where
-  -- one step of the loop
-  pub any_below-next : (k : ℕ) → any_below (k + 1) p ≡ (p k || any_below k p)
-  unfolding any_below
-  any_below-next k = rw add-one
-
-  pub any_below-none : (k : ℕ) → any_below k p ≡ false → p k ≡ false → any_below (k + 1) p ≡ false
-  any_below-none k q r = rw (any_below-next k, r) q
-
-  -- its early end
-  pub any_below-found : (n k : ℕ) → k < n → p k ≡ true → any_below n p ≡ true
-  unfolding any_below
-  any_below-found zero k l q = absurd (not-suc-le-zero l)
-  any_below-found (suc n) k l q =
-      by-test (eqb k n)
-      (λ e. rw (← eqb-true k n e, q))
-      (λ e. rw (any_below-found n k (omega (arith, eqb-false k n e)) q) (or-true (p n)))
 
 -- r passes where q does, which does not at n, and perhaps at n
 any_below-put : (m n : ℕ) (q r : ℕ → Bool) → n < m → q n ≡ false → ((j : ℕ) → (n ≡ j → ⊥) → r j ≡ q j)

@@ -64,7 +64,7 @@ pub fn fingerprint(progress: &Progress, ballots: &[u32]) -> [u32; 8]
     let passed = progress.passed();
     let mut hash = Hash::new();
     for row in rows::held(ballots, progress.state.ballots) {
-        let ballot = lookup::main_entry(&passed, words::wide(row[0]));
+        let ballot = lookup::main_entry(&passed, row[0] as usize);
         let item = progress.entry(ballot).item;
         hash = hash.words(words::part(progress.board, item.content, item.head.count));
     }

@@ -27,7 +27,7 @@ entry-requires c =
     let rows = c.held-row-items in
     item_in (kept-held r) (stands-held r) c.requires c.loop-row.row-index (omega arith)
     rows.result.now (rows.ensures.votes _ (holds_rows (stands-held r) c.requires))
-    c.main_entry-ballot.result (rw (c.wide.ensures, passed.board, passed.count) at c.main_entry-ballot.ensures)
+    c.main_entry-ballot.result (rw (passed.board, passed.count) at c.main_entry-ballot.ensures)
 
 pub part-requires : goal.part-requires
 part-requires c = (known-within c.entry.ensures).content
@@ -50,7 +50,7 @@ loop-row-preserved c =
       omega (arith, fed-count l.hash _ next, l.invariant.0),
       message-more (kept-held r) (stands-held r) c.requires l.row-index (omega arith)
           rows.result.now (rows.ensures.votes _ (holds_rows (stands-held r) c.requires))
-          c.main_entry-ballot.result (rw (c.wide.ensures, passed.board, passed.count) at c.main_entry-ballot.ensures)
+          c.main_entry-ballot.result (rw (passed.board, passed.count) at c.main_entry-ballot.ensures)
           e.result e.ensures l.hash c.words-hash.result next l.invariant.1,
     )
 
