@@ -20,8 +20,6 @@ module _ (f : Format) (h : History) (i : Item) where
   abbrev extraction : Bool
   extraction = extraction_ok f h i
 
-  pub content-is : (x y z : Bool) → x ≡ config → y ≡ voting → z ≡ extraction → (x && y && z) ≡ content_ok f h i
+  pub content-is : content_ok f h i ≡ (config && voting && extraction)
   unfolding content_ok
-  content-is x y z d e u =
-      rw (d, e, u)
-      (by-test config (λ q. rw q (by-test voting (λ r. rw r) (λ r. rw r))) (λ q. rw q))
+  content-is = by-test config (λ q. rw q (by-test voting (λ r. rw r) (λ r. rw r))) (λ q. rw q)
