@@ -1,5 +1,5 @@
 -- The content words of an item, as they stand in the board: of the item that is judged, and of an earlier one. Assumes nothing.
-use Prim.Native.Nat.{ℕ, zero, suc, ◌+◌, ◌*◌, ◌^◌, ◌≤◌, ◌<◌}
+use Prim.Native.Nat.{ℕ, zero, suc, ◌+◌, ◌≤◌, ◌<◌}
 use native.Mathlib.Nat.{not-suc-le-zero}
 use native.Mathlib.Omega.{arith}
 use mathlib.Core.Path.{◌≡◌, sym, ap, ◌∙◌}
@@ -7,10 +7,8 @@ use mathlib.Core.Bool.{Bool, true, false}
 use mathlib.Core.List.{List}
 use lib.ListN.{length, get_or, get_or-eq_default}
 use borrow.Author.Tests.{eq-eqb, ne_eqb}
-use lib.Count.{ones, ones-le}
 use lib.Dec.{eqb}
 use Rattle.model.specs.Lists.{◌⇒◌, part}
-use Rattle.model.specs.Words.{pair}
 use Rattle.model.specs.Item.{Item, code, word}
 use Rattle.model.specs.History.{History, Entry, absent, entry, item_no}
 use Rattle.model.proofs.Parts.{length_part}
@@ -24,20 +22,6 @@ use Rattle.index.proofs.Reading.{known-item}
 use Rattle.state.specs.declared.State.{State}
 use Rattle.state.specs.Stands.{AtItem}
 use Rattle.state.proofs.At.{at_code, at_places, at-content-words}
-use Rattle.words.proofs.Runs.{get_or-part, pair-part}
-
--- ---- words of a part
-
-module _ (board : List ℕ) (p n k : ℕ) (h : p + n ≤ length board) where
-  pub word-past : n ≤ k → 0 ≡ get_or (part p n board) k 0
-  word-past l = sym (get_or-eq_default (part p n board) 0 (omega (arith, length_part p n board h)))
-
-  pub word-within : k < n → get_or board (p + k) 0 ≡ get_or (part p n board) k 0
-  word-within l = sym (get_or-part board p n k l)
-
-  pub words-joined : k + 2 ≤ n → (high low : ℕ) → high ≡ get_or (part p n board) k 0 → low ≡ get_or (part p n board) (k + 1) 0
-      → high * 2 ^ 32 + low ≡ pair (part k 2 (part p n board))
-  words-joined l high low e d = rw (e, d) (sym (pair-part (part p n board) k (omega (arith, length_part p n board h))))
 
 -- ---- an earlier item
 
@@ -69,9 +53,6 @@ module _ {board index : List ℕ} {s : State} {c : Known} (a : AtItem board inde
   pub content-within : c.item.content + c.item.head.count ≤ length board
   content-within = let places = at_places a in omega arith
 
-  pub content-word : (k : ℕ) → get_or (part c.item.content c.item.head.count board) k 0 ≡ word k (item_after board s.items)
-  content-word k = ap (λ (l : List ℕ). get_or l k 0) (at-content-words a)
-
   pub content-length : length (item_after board s.items).content ≡ c.item.head.count
   content-length = ap length (sym (at-content-words a)) ∙ length_part c.item.content c.item.head.count board content-within
 
@@ -90,8 +71,3 @@ module _ {board index : List ℕ} {s : State} {c : Known} (a : AtItem board inde
   pub of-other : (t : ℕ) → (c.item.head.code ≡ t → ⊥) → (rule : Bool) → true ≡ (eqb (code (item_after board s.items)) t ⇒ rule)
   unfolding ◌⇒◌
   of-other t q rule = rw (not-type t q)
-
--- ---- sets
-
-pub ones-few : (w : ℕ) → w < 2 ^ 32 → ones w ≤ 32
-ones-few w l = ones-le 32 w l
