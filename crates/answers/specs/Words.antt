@@ -1,11 +1,13 @@
 -- The answers of the entries as words, for callers in other languages, and a buffer after they are written. Assumes nothing.
-use Rattle.std.specs.Prelude.{List, [], ◌∷◌, ◌++◌, ℕ, ◌/◌, ◌%◌, ◌^◌, length, drop}
+use Rattle.std.specs.Prelude.{List, [], ◌∷◌, ◌++◌, ℕ, ◌/◌, ◌%◌, ◌^◌, length, drop, Option, Some, None, Result}
 use Rattle.model.specs.Report.{Report}
 use Rattle.model.specs.Compare.{apart, same, collision}
 use Rattle.model.specs.Comparing.{Board, kept_board, later_board, ComparingAnswer, refused_board, compared}
 use Rattle.model.specs.Ancestry.{AncestryAnswer, unlisted, listed}
 use Rattle.watch.specs.Notes.{Disagreement, no_main_item, out_of_order, too_early, Agreement, not_held, all_agree, disagrees}
 use Rattle.planning.specs.Plan.{Plan}
+use Rattle.notes.specs.Holding.{agreement_of}
+use Rattle.notes.specs.declared.Disagrees.{Disagrees}
 
 -- a buffer with the words over its first ones
 abbrev pub overwritten : List ℕ → List ℕ → List ℕ
@@ -62,6 +64,11 @@ abbrev pub way_word : Disagreement → ℕ
 way_word no_main_item = 2
 way_word out_of_order = 3
 way_word too_early = 4
+
+-- what the notes say, if they are held against an accepted board
+abbrev pub said : Option (Result Unit Disagrees) → Agreement
+said None = not_held
+said (Some a) = agreement_of a
 
 -- what the notes say (0 not held, 1 all agree, or what is wrong), and the number of the first that disagrees, else 0
 unfoldable pub agreement_words : Agreement → List ℕ

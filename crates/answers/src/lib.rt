@@ -5,15 +5,15 @@ ghost use Rattle.std.specs.Prelude.{◌≡◌, ◌+◌, ◌/◌, ◌%◌, ◌^�
 ghost use Rattle.report.specs.Reported.{reported};
 ghost use Rattle.compare.specs.Answer as comparing;
 ghost use Rattle.ancestry.specs.Answer as listed;
-ghost use Rattle.notes.specs.Holding.{way_of, agreement_of};
+ghost use Rattle.notes.specs.Holding.{way_of};
 ghost use Rattle.answers.specs.Words.{overwritten, audit_size, head_words, answer_words};
 ghost use Rattle.answers.specs.Words.{compare_size, board_word, comparison_words, ancestry_size, listing_words};
 ghost use Rattle.plan.specs.Planned.{planned};
-ghost use Rattle.answers.specs.Words.{notes_size, way_word, agreement_words, held_words};
+ghost use Rattle.answers.specs.Words.{notes_size, way_word, said, agreement_words, held_words};
 ghost use Rattle.answers.specs.Words.{export_size, exported_words, plan_size, plan_words};
 
 use compare::{Board, RefusedBoard};
-use notes::Disagreement;
+use notes::{Disagreement, Disagrees};
 use pairs::Agreement;
 use plan::Plan;
 use refusal::Refused;
@@ -142,30 +142,25 @@ pub fn put_listing(listing: Result<u32, Refused>, buffer: &mut [u32])
 fn way_word(disagreement: Disagreement) -> u32
     ensures { result ≡ way_word (way_of disagreement) }
 {
-    match disagreement {
-        Disagreement::NoMainItem => 2,
-        Disagreement::OutOfOrder => 3,
-        Disagreement::TooEarly => 4,
-    }
+    disagreement as u32
 }
 
-// What the notes say, and the number of the first that disagrees.
+// What the notes say, and the number of the first that disagrees. There is no agreement where the notes or the board are refused.
 #[tactic(auto, unfolding(crate::specs::Words::agreement_words))]
-fn agreement_words(agreement: notes::Agreement) -> [u32; 2]
-    ensures { result ≡ agreement_words (agreement_of agreement) }
+fn agreement_words(agreement: Option<Result<(), Disagrees>>) -> [u32; 2]
+    ensures { result ≡ agreement_words (said agreement) }
 {
     match agreement {
-        notes::Agreement::NotHeld => [0, 0],
-        notes::Agreement::AllAgree => [1, 0],
-        notes::Agreement::Disagrees { note, disagreement } => [way_word(disagreement), note],
+        None => [0, 0],
+        Some(Ok(())) => [1, 0],
+        Some(Err(first)) => [way_word(first.disagreement), first.note],
     }
 }
 
 // Writes the words of a report, and behind them what notes say, over the first of a buffer.
-pub fn put_held(report: Report, agreement: notes::Agreement, buffer: &mut [u32])
+pub fn put_held(report: Report, agreement: Option<Result<(), Disagrees>>, buffer: &mut [u32])
     requires { notes_size ≤ length buffer.old }
-    ensures { buffer.new
-        ≡ overwritten (held_words (reported report) (agreement_of agreement)) buffer.old }
+    ensures { buffer.new ≡ overwritten (held_words (reported report) (said agreement)) buffer.old }
 {
     put_report(report, buffer);
     put_words(&agreement_words(agreement), &mut buffer[Size::AUDIT..]);

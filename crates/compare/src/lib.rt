@@ -13,7 +13,7 @@ use index::passed::Passed;
 use pairs::Agreement;
 use refusal::{Refusal, Refused};
 
-// Which board a refusal names.
+// Which board a refusal names, numbered as in the words of an answer.
 #[derive(Clone, Copy)]
 pub enum Board {
     Kept = 0,

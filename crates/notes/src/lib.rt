@@ -24,15 +24,15 @@ impl Note {
     pub const LIMIT: usize = 1024;
 }
 
-// What is wrong with a note.
+// What is wrong with a note, numbered as in the words of an answer.
 #[derive(Clone, Copy)]
 pub enum Disagreement {
     // Its address is no main item's.
-    NoMainItem,
+    NoMainItem = 2,
     // Its main item is earlier than that of the note before.
-    OutOfOrder,
+    OutOfOrder = 3,
     // Its time is less than that of its main item.
-    TooEarly,
+    TooEarly = 4,
 }
 
 // The first note that disagrees: its number, from 1, and what is wrong with it.
