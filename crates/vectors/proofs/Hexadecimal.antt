@@ -3,13 +3,14 @@ use mathlib.Core.Path.{◌≡◌, refl, sym, ap, ◌∙◌}
 use Prim.Native.Nat.{ℕ, zero, suc, ◌+◌, ◌-◌, ◌*◌, ◌^◌, ◌≤◌, ◌<◌}
 use mathlib.Core.Bool.{Bool, true, false, and-eq-true_iff, and-false}
 use mathlib.Core.List.{List, [], ◌∷◌, ◌++◌}
-use native.Mathlib.Nat.{pow-suc, pow-le-pow_right}
+use native.Mathlib.Nat.{suc-mul, add_comm, pow-suc, pow-le-pow_right}
 use native.Mathlib.Numerals.{add-one}
 use native.Mathlib.Omega.{arith}
 use borrow.Author.Tests.{ltb-true}
 use lib.Dec.{ltb}
-use lib.ListN.{length, get_or, take, drop, set, replicate, length-append, length-drop}
-use lib.Seq.{drop-cons, drop-length, append_snoc, set_at, length-take-le}
+use lib.ListN.{length, get_or, take, drop, set, replicate, length-append, length-take}
+use Rattle.std.specs.Simd.{first_chunks}
+use lib.Seq.{drop-drop, drop-cons, drop-length, append_snoc, set_at}
 use Rattle.std.proofs.Common.{Some, None, is_some, cond}
 use Rattle.vectors.specs.Hexadecimal.{digit, digit_value, all_digits, number, number_from, words_of}
 
@@ -90,9 +91,6 @@ digits-take (suc n) (c ∷ cs) w =
     let b = (and-eq-true_iff (ltb (digit c) 16) (all_digits cs)).0 w in
     (and-eq-true_iff (ltb (digit c) 16) (all_digits (take n cs))).1 (b.0, digits-take n cs b.1)
 
-pub digits-part : (n m : ℕ) (l : List ℕ) → all_digits l ≡ true → all_digits (take n (drop m l)) ≡ true
-digits-part n m l w = digits-take n (drop m l) (digits-drop m l w)
-
 -- ---- a number
 
 -- few digits make a small number
@@ -104,21 +102,27 @@ more-digits n d i p q = rw (add-one, pow-suc) (omega arith)
 
 -- ---- words
 
--- the digits of a word
-pub length-eight : (text : List ℕ) (at end : ℕ) → end ≡ at + 8 → end ≤ length text → length (take (end - at) (drop at text)) ≡ 8
-length-eight text at end p q = length-take-le (end - at) (drop at text) (rw length-drop (omega arith)) ∙ omega arith
+-- the digits of word i, of the first n
+pub eight-is : (text : List ℕ) (n i : ℕ) → i < n → get_or (first_chunks 8 n text) i [] ≡ take 8 (drop (i * 8) text)
+eight-is text zero i p = absurd (omega arith)
+eight-is text (suc n) zero p = refl
+eight-is text (suc n) (suc i) p = eight-is (drop 8 text) n i (omega arith) ∙ rw (drop-drop, suc-mul, add_comm) refl
+
+pub length-eight : (text : List ℕ) (n i : ℕ) → i < n → length (get_or (first_chunks 8 n text) i []) ≤ 8
+length-eight text n i p = rw (eight-is text n i p, length-take) (omega arith)
+
+pub digits-eight : (text : List ℕ) (n i : ℕ) → i < n → all_digits text ≡ true → all_digits (get_or (first_chunks 8 n text) i []) ≡ true
+digits-eight text n i p w = rw (eight-is text n i p) (digits-take 8 (drop (i * 8) text) (digits-drop (i * 8) text w))
 
 length-words : (text : List ℕ) (n : ℕ) → length (words_of text n) ≡ n
 unfolding words_of
 length-words text zero = refl
 length-words text (suc n) = length-append (words_of text n) _ ∙ ap (◌+ 1) (length-words text n) ∙ add-one n
 
--- a word more, the one that the digits from the place on make, in room for `room`
-pub words-next : (text l : List ℕ) (room i at end : ℕ) {w : ℕ} → i < room → at ≡ i * 8 → end ≡ at + 8
-    → w ≡ number (take (end - at) (drop at text)) → l ≡ words_of text i ++ replicate (room - i) 0
-    → set l i w ≡ words_of text (i + 1) ++ replicate (room - (i + 1)) 0
+-- a word more, the one that the next eight digits make, in room for `room`
+pub words-next : (text l : List ℕ) (room n i : ℕ) {w : ℕ} → i < n → n ≤ room → w ≡ number (get_or (first_chunks 8 n text) i [])
+    → l ≡ words_of text i ++ replicate (room - i) 0 → set l i w ≡ words_of text (i + 1) ++ replicate (room - (i + 1)) 0
 unfolding words_of
-words-next text l room i at end {w} p e f m h =
-    let n : end - at ≡ 8 = omega arith in
+words-next text l room n i {w} p q m h =
     let k : room - i ≡ suc (room - suc i) = omega arith in
-    rw (h, k, set_at (words_of text i) 0 (replicate (room - suc i) 0) w i (length-words text i), add-one, append_snoc, ← e, ← n, ← m)
+    rw (h, k, set_at (words_of text i) 0 (replicate (room - suc i) 0) w i (length-words text i), add-one, append_snoc, m, eight-is text n i p) refl

@@ -64,8 +64,9 @@ fn read_words(text: &[u8]) -> [u32; ROOM]
     ensures { result ≡ (let n = length text.now / 8 in words_of text.now n ++ replicate (256 - n) 0) }
 {
     let mut words = [0u32; ROOM];
-    for i in 0..text.len() / 8 {
-        words[i] = number(&text[i * 8..i * 8 + 8]);
+    let (eights, _) = text.as_chunks::<8>();
+    for (i, eight) in eights.iter().enumerate() {
+        words[i] = number(eight);
     }
     words
 }
