@@ -106,7 +106,7 @@ more-digits n d i p q = rw (add-one, pow-suc) (omega arith)
 pub eight-is : (text : List ℕ) (n i : ℕ) → i < n → get_or (first_chunks 8 n text) i [] ≡ take 8 (drop (i * 8) text)
 eight-is text zero i p = absurd (omega arith)
 eight-is text (suc n) zero p = refl
-eight-is text (suc n) (suc i) p = eight-is (drop 8 text) n i (omega arith) ∙ rw (drop-drop, suc-mul, add_comm) refl
+eight-is text (suc n) (suc i) p = eight-is (drop 8 text) n i (omega arith) ∙ rw (drop-drop, suc-mul, add_comm 8 (i * 8)) refl
 
 pub length-eight : (text : List ℕ) (n i : ℕ) → i < n → length (get_or (first_chunks 8 n text) i []) ≤ 8
 length-eight text n i p = rw (eight-is text n i p, length-take) (omega arith)
