@@ -8,6 +8,7 @@ ghost use Rattle.text.specs.Put.{Shown};
 ghost use Rattle.program.specs.Read.{Read};
 ghost use Rattle.program.specs.Texts.{audit_text, files_text};
 
+use audit::Submission;
 use format::limit::Limit;
 use refusal::Refused;
 use text::line::LINE;
@@ -24,15 +25,15 @@ pub const ROLL: usize = Sizes::WORD * Sizes::ROLL;
 pub const TEXT: usize = LINE * (1 + Limit::COUNTED);
 
 // The text of the audit of a board, with tables of its own.
-fn audit_text(out: &mut [u8], board: &[u32], verdicts: &[u32], roll: &[u32]) -> usize
+fn audit_text(out: &mut [u8], submission: &Submission) -> usize
     requires { TEXT ≤ length out.old }
     ensures { Shown out.old
-        (audit_text board.now verdicts.now roll.now)
+        (audit_text submission.now.board.now submission.now.verdicts.now submission.now.roll.now)
         out.new result }
 {
     let mut index = [0u32; Limit::INDEX];
     let mut ballots = [0u32; Limit::BALLOTS];
-    let report = audit::audit(board, verdicts, roll, &mut index, &mut ballots);
+    let report = audit::audit(submission, &mut index, &mut ballots);
     text::text_of(out, &report, &ballots)
 }
 
@@ -52,12 +53,12 @@ fn words_text(out: &mut [u8], board: &[u8], verdicts: &[u8], roll: &[u8]) -> usi
     words::words_of(verdicts, &mut verdict_words);
     let mut roll_words = [0u32; Sizes::ROLL];
     words::words_of(roll, &mut roll_words);
-    audit_text(
-        out,
-        &board_words[..board.len() / Sizes::WORD],
-        &verdict_words[..verdicts.len() / Sizes::WORD],
-        &roll_words[..roll.len() / Sizes::WORD],
-    )
+    let submission = Submission {
+        board: &board_words[..board.len() / Sizes::WORD],
+        verdicts: &verdict_words[..verdicts.len() / Sizes::WORD],
+        roll: &roll_words[..roll.len() / Sizes::WORD],
+    };
+    audit_text(out, &submission)
 }
 
 // The text for three files: their sizes, and the bytes that are kept of them.

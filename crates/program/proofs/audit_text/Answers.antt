@@ -7,7 +7,8 @@ use Rattle.program.proofs.audit_text.Goals as goal
 pub text_of-requires : goal.text_of-requires
 text_of-requires c =
     let a = c.audit-report in
-    let fits = rows_fit (format_of c.args.board.now) c.args.board.now c.args.verdicts.now c.args.roll.now _ _ _ a.ensures.answer (omega arith) in record {
+    let s = c.args.submission.now in
+    let fits = rows_fit (format_of s.board.now) s.board.now s.verdicts.now s.roll.now _ _ _ a.ensures.answer (omega arith) in record {
       room = omega arith;
       rows = omega (arith, a.auto.ballots);
     }
@@ -15,4 +16,5 @@ text_of-requires c =
 pub returns : goal.returns
 returns c =
     let a = c.audit-report in
-    audit-shown c.args.board.now c.args.verdicts.now c.args.roll.now _ _ _ _ _ a.ensures.answer a.ensures.ballots c.text_of.ensures
+    let s = c.args.submission.now in
+    audit-shown s.board.now s.verdicts.now s.roll.now _ _ _ _ _ a.ensures.answer a.ensures.ballots c.text_of.ensures
