@@ -1,10 +1,11 @@
 -- The rules of session, commitments and ballot, by their tests. Assumes nothing.
-use Prim.Native.Nat.{ℕ, suc, ◌+◌, ◌-◌, ◌*◌, ◌%◌, ◌^◌, ◌≤◌, ◌<◌}
+use Prim.Native.Nat.{ℕ, zero, suc, ◌+◌, ◌-◌, ◌*◌, ◌%◌, ◌^◌, ◌≤◌, ◌<◌}
 use native.Mathlib.Nat.{mul-le-mul}
+use native.Mathlib.Decide.{dec_le}
 use native.Mathlib.Omega.{arith}
 use mathlib.Core.Path.{◌≡◌, refl, sym, ap, ◌∙◌}
-use mathlib.Core.Logic.{◌≢◌}
-use mathlib.Core.Bool.{Bool, true, false, ◌&&◌}
+use mathlib.Core.Logic.{◌≢◌, by_cases}
+use mathlib.Core.Bool.{Bool, true, false, ◌&&◌, and-false}
 use mathlib.Core.List.{List, []}
 use lib.ListN.{length, get_or, take, drop, length-drop}
 use lib.Seq.{take_all}
@@ -45,31 +46,38 @@ use Rattle.voting.specs.Rules.{AtBallot, own_contests}
 
 -- ---- the last word of each cryptogram
 
--- the words of n cryptograms are few, and there are some where n is not 0
+-- the words of n cryptograms are few
 pub words-few : (n size : ℕ) → n ≤ 256 → size ≤ 34 → n * size ≤ 8704
 words-few n size l m = omega (arith, mul-le-mul l m)
 
-pub words-some : (n size : ℕ) → 1 ≤ n → 1 ≤ size → 1 ≤ n * size
-words-some n size l m = omega (arith, mul-le-mul l m)
-
 module _ (sets each : ℕ) (content : List ℕ) where
-  pub last_none : (k : ℕ) → k ≡ 0 → cryptograms_ok sets each k content ≡ true
+  abbrev good : ℕ → Bool
+  good k = cryptograms_ok sets each k content
+
+  pub none-yet : good 0 ≡ true
   unfolding cryptograms_ok
-  last_none k e = rw e
+  none-yet = refl
 
-  last_step : (k j : ℕ) → k ≡ suc j
-      → cryptograms_ok sets each k content ≡ (low_zero 16 (get_or content (sets + k * each - 1) 0) && cryptograms_ok sets each j content)
+  good-step : (k : ℕ) → good (k + 1) ≡ (low_zero 16 (get_or content (sets + (k + 1) * each - 1) 0) && good k)
   unfolding cryptograms_ok
-  last_step k j e = rw e
+  good-step k = let e : k + 1 ≡ suc k = omega arith in rw e
 
-  module _ (k last : ℕ) (some : 1 ≤ k) (is : last ≡ get_or content (sets + k * each - 1) 0) where
-    pub last-go : last % 2 ^ 16 ≡ 0 → cryptograms_ok sets each k content ≡ cryptograms_ok sets each (k - 1) content
+  module _ (k last : ℕ) (is : last ≡ get_or content (sets + (k + 1) * each - 1) 0) where
+    pub one-more : last % 2 ^ 16 ≡ 0 → good k ≡ true → good (k + 1) ≡ true
     unfolding low_zero
-    last-go q = last_step k (k - 1) (omega arith) ∙ rw (← is, eq-eqb _ _ q)
+    one-more q g = good-step k ∙ rw (← is, eq-eqb _ _ q, g)
 
-    pub last-stop : (last % 2 ^ 16 ≡ 0 → ⊥) → cryptograms_ok sets each k content ≡ false
+    -- one that is not good is among any that are more
+    one-bad : (last % 2 ^ 16 ≡ 0 → ⊥) → good (k + 1) ≡ false
     unfolding low_zero
-    last-stop q = last_step k (k - 1) (omega arith) ∙ rw (← is, ne_eqb _ _ q)
+    one-bad q = good-step k ∙ rw (← is, ne_eqb _ _ q)
+
+    pub one-stop : (last % 2 ^ 16 ≡ 0 → ⊥) → (n : ℕ) → k < n → good n ≡ false
+    one-stop q zero l = absurd (omega arith)
+    one-stop q (suc n) l =
+        by_cases (dec_le n k)
+        (λ d. let e : suc n ≡ k + 1 = omega arith in rw e (one-bad q))
+        (λ d. let e : suc n ≡ n + 1 = omega arith in rw e (good-step n ∙ rw (one-stop q n (omega arith), and-false)))
 
 module _ {board index : List ℕ} {s : State} {c : Known} (a : AtItem board index s c) where
   abbrev h : History

@@ -106,8 +106,8 @@ fn cryptograms_ok(content: &[u32], sets: usize, size: usize, n: usize) -> bool
     requires { (sets ≤ 8) × (1 ≤ size) × (size ≤ 34) × (n ≤ set_bits * sets) }
     ensures { result ≡ cryptograms_ok sets size n content.now }
 {
-    for k in (1..=n).rev() {
-        let last = word(content, sets + k * size - 1);
+    for k in 0..n {
+        let last = word(content, sets + (k + 1) * size - 1);
         if last % Range::CRYPTOGRAM != 0 {
             return false;
         }

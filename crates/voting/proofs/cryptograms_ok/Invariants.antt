@@ -1,7 +1,8 @@
 use mathlib.Core.Path.{◌≡◌}
+use mathlib.Core.Bool.{true}
 use Rattle.model.specs.Content.{cryptograms_ok}
 use Rattle.voting.proofs.cryptograms_ok.Given as goal
 
--- the cryptograms behind the first k passed
+-- the first k cryptograms passed
 abbrev pub invariant-loop-k : goal.invariant-loop-k
-invariant-loop-k l = cryptograms_ok l.sets l.size l.n l.content ≡ cryptograms_ok l.sets l.size l.k l.content
+invariant-loop-k l = cryptograms_ok l.sets l.size l.k l.content ≡ true
