@@ -9,8 +9,7 @@ pub extern "C" fn tirfolma_sha256_words(words: &[u32], digest: &mut [u32; 8]) ->
     ensures { Answer words.now digest.old result digest.new }
 {
     if words.len() <= sha256::Hash::LIMIT {
-        let d = sha256::digest(words);
-        *digest = d;
+        *digest = sha256::digest(words);
         return true;
     }
     false

@@ -97,29 +97,27 @@ impl Hash {
     fn end(self) -> [u64; 8]
         ensures { result ≡ ended self }
     {
-        let n = self.count;
-        let b = self.block;
-        let h = self.chain;
-        last_blocks(h, &b[..n % 32], n)
+        last_blocks(self.chain, &self.block[..self.count % 32], self.count)
     }
 
     // The SHA-384 digest of the words that were fed: the first six words of the hash value.
     pub fn finish384(self) -> [u32; 12]
         ensures { result ≡ digest384_of self }
     {
-        digest384_words(self.end())
+        halves::<12>(self.end())
     }
 
     // The SHA-512 digest of the words that were fed.
     pub fn finish512(self) -> [u32; 16]
         ensures { result ≡ digest512_of self }
     {
-        digest512_words(self.end())
+        halves::<16>(self.end())
     }
 }
 
 // The hash value h after the words left over behind the whole blocks of a message of n words, and the padding. The last block or two are
 // put together at once: those words, the bit 1, zeros, and the length in bits, of whose four words the first is zero (5.1.2).
+// Kept beside `finish` of sha256: the length is other words at other places, and a generic function would share three lines.
 fn last_blocks(h: [u64; 8], left: &[u32], n: usize) -> [u64; 8]
     requires { length left.now ≡ n % 32 }
     ensures { result ≡ hash_over h (left.now ++ padding n) }
@@ -135,37 +133,16 @@ fn last_blocks(h: [u64; 8], left: &[u32], n: usize) -> [u64; 8]
     sha512_blocks::compress_blocks(h, &m[..end])
 }
 
-// Fills d with the halves of the first words of h.
-fn write_halves(h: [u64; 8], d: &mut [u32])
-    requires { (length d.old % 2 ≡ 0) × (length d.old ≤ 16) }
-    ensures { d.new ≡ to_halves (take (length d.old / 2) h) }
+// A digest of D words of 32 bits, for the hash value h: the halves of its first words, all of them for SHA-512, six for SHA-384 (6.5).
+fn halves<const D: usize>(h: [u64; 8]) -> [u32; D]
+    requires { (D % 2 ≡ 0) × (D ≤ 16) }
+    ensures { result ≡ to_halves (take (D / 2) h) }
 {
-    let mut i: usize = 0;
-    let mut at: usize = 0;
-    while at < d.len() {
-        let w = h[i];
-        d[at] = (w / 0x1_0000_0000) as u32;
-        d[at + 1] = (w % 0x1_0000_0000) as u32;
-        i += 1;
-        at += 2;
+    let mut d = [0u32; D];
+    for i in 0..D / 2 {
+        d[i * 2] = (h[i] / 0x1_0000_0000) as u32;
+        d[i * 2 + 1] = (h[i] % 0x1_0000_0000) as u32;
     }
-}
-
-// The digest of SHA-384, for the hash value h: its first six words (6.5).
-fn digest384_words(h: [u64; 8]) -> [u32; 12]
-    ensures { result ≡ to_halves (take 6 h) }
-{
-    let mut d = [0u32; 12];
-    write_halves(h, &mut d);
-    d
-}
-
-// The digest of SHA-512: all of it.
-fn digest512_words(h: [u64; 8]) -> [u32; 16]
-    ensures { result ≡ to_halves h }
-{
-    let mut d = [0u32; 16];
-    write_halves(h, &mut d);
     d
 }
 
@@ -184,12 +161,12 @@ fn hash_words(start: [u64; 8], words: &[u32]) -> [u64; 8]
 pub fn digest384(words: &[u32]) -> [u32; 12]
     ensures { result ≡ sha384_words words.now }
 {
-    digest384_words(hash_words(sha512_block::start384(), words))
+    halves::<12>(hash_words(sha512_block::start384(), words))
 }
 
 // The SHA-512 digest of a message.
 pub fn digest512(words: &[u32]) -> [u32; 16]
     ensures { result ≡ sha512_words words.now }
 {
-    digest512_words(hash_words(sha512_block::start512(), words))
+    halves::<16>(hash_words(sha512_block::start512(), words))
 }

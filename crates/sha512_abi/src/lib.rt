@@ -10,8 +10,7 @@ ghost use Rattle.sha512_block.specs.Fips.{sha384_words, sha512_words};
 pub extern "C" fn tirfolma_sha384_words(words: &[u32], digest: &mut [u32; 12])
     ensures { digest.new ≡ sha384_words words.now }
 {
-    let d = sha512::digest384(words);
-    *digest = d;
+    *digest = sha512::digest384(words);
 }
 
 // Writes the SHA-512 digest of the message.
@@ -19,6 +18,5 @@ pub extern "C" fn tirfolma_sha384_words(words: &[u32], digest: &mut [u32; 12])
 pub extern "C" fn tirfolma_sha512_words(words: &[u32], digest: &mut [u32; 16])
     ensures { digest.new ≡ sha512_words words.now }
 {
-    let d = sha512::digest512(words);
-    *digest = d;
+    *digest = sha512::digest512(words);
 }

@@ -12,7 +12,7 @@ pub returns-then-words-le-LIMIT : goal.returns-then-words-le-LIMIT
 returns-then-words-le-LIMIT c =
     let ws = c.args.words.now in
     let short : ltb (length ws) (2 ^ 59) ≡ true = lt-ltb (length ws) (2 ^ 59) (omega arith) in
-    record { told = sym short; written = rw short c.digest-d.ensures }
+    record { told = sym short; written = rw short c.digest.ensures }
 
 pub returns : goal.returns
 returns c =

@@ -10,6 +10,6 @@ pub returns : goal.returns
 unfolding sha384_words
 returns c =
     let m = c.args.words.now in
-    c.digest384_words.ensures
+    c.halves.ensures
     ∙ ap (λ (h : List ℕ). to_halves (take 6 h))
     (c.hash_words.ensures ∙ ap (λ (start : List ℕ). hash_words start m) c.start384.ensures)

@@ -1,5 +1,5 @@
 -- `Hash::finish` meets its contract: what it hashes last is what was pending and the padding.
-use mathlib.Core.Path.{◌≡◌, sym, ap, ◌∙◌}
+use mathlib.Core.Path.{◌≡◌, ap, ◌∙◌}
 use Prim.Native.Nat.{ℕ, ◌%◌}
 use mathlib.Core.List.{List}
 use native.Mathlib.Omega.{arith}
@@ -19,15 +19,6 @@ pending s = sha2.pending sha256_function (running s)
 few : (s : Hash) → length s.block ≡ 16 → length (pending s) ≡ s.count % 16
 few s n = length-take-le (s.count % 16) s.block (omega (arith, n))
 
-pub slice_bounds-b-end : goal.slice_bounds-b-end
-slice_bounds-b-end c = let sized : length c.args.self.block ≡ 16 = search rules in omega (arith, sized)
-
-pub slice_bounds-store-end-2 : goal.slice_bounds-store-end-2
-slice_bounds-store-end-2 c = sym (few c.args.self (search rules))
-
-pub store-requires : goal.store-requires
-store-requires c = let n = few c.args.self (search rules) in omega (arith, n)
-
 pub slice_bounds-m-end : goal.slice_bounds-m-end
 slice_bounds-m-end c =
     end-within c.args.self.count (pending c.args.self) (few c.args.self (search rules)) _ c.store.ensures _ _ _ _ _ _
@@ -39,6 +30,6 @@ slice_bounds-compress_blocks-end c =
 pub returns : goal.returns
 unfolding digest_of sha2.ended
 returns c =
-    c.compress_blocks-next.ensures
+    c.compress_blocks.ensures
     ∙ ap (hash_over c.args.self.chain)
     (last-blocks c.args.self.count (pending c.args.self) (few c.args.self (search rules)) _ c.store.ensures c.requires)

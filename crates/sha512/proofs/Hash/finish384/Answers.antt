@@ -9,4 +9,4 @@ use Rattle.sha512.proofs.Hash.finish384.Goals as goal
 
 pub returns : goal.returns
 unfolding digest384_of
-returns c = c.digest384_words.ensures ∙ ap (λ (h : List ℕ). to_halves (take 6 h)) c.end.ensures
+returns c = c.halves.ensures ∙ ap (λ (h : List ℕ). to_halves (take 6 h)) c.end.ensures
