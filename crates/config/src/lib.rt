@@ -42,7 +42,7 @@ fn contest_ok(next: &Candidate) -> bool
     if next.known.item.head.code != Head::CONTEST {
         return true;
     }
-    let number = words::wide(word(content_of(next), Content::CONTEST));
+    let number = word(content_of(next), Content::CONTEST) as usize;
     number < Format::BITS * Format::of(next.board).sets
 }
 

@@ -12,14 +12,14 @@ use index::addition::Addition;
 pub fn of_address(word: u32) -> usize
     ensures { result ≡ word % buckets }
 {
-    words::wide(word) % Chain::BUCKETS
+    word as usize % Chain::BUCKETS
 }
 
 // Of a voter: bucket 0 has what is no session.
 pub fn of_voter(voter: u32) -> usize
     ensures { result ≡ of_voter voter }
 {
-    words::wide(voter) % (Chain::BUCKETS - 1) + 1
+    voter as usize % (Chain::BUCKETS - 1) + 1
 }
 
 // Of an item that is one more, by its voter.

@@ -62,7 +62,7 @@ fn ballot_ok(next: &Candidate) -> bool
     let format = Format::of(next.board);
     let sets = format.sets;
     let contests = words::part(content, 0, sets);
-    let cryptograms = words::wide(sets::count(contests));
+    let cryptograms = sets::count(contests) as usize;
     content.len() == sets + cryptograms * format.cryptogram
         && may_vote(next, contests)
         && cryptograms_ok(content, sets, format.cryptogram, cryptograms)

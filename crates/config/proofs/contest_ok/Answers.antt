@@ -1,6 +1,5 @@
 -- `contest_ok` meets its contract. Assumes nothing.
 use native.Mathlib.Omega.{arith}
-use mathlib.Core.Path.{◌∙◌}
 use Rattle.format.proofs.Traits.{knows, sizes}
 use Rattle.state.proofs.Had.{at-had}
 use Rattle.config.proofs.Rules.{contest-other, contest-is}
@@ -17,5 +16,5 @@ overflow_mul-result c =
 
 pub returns : goal.returns
 returns c =
-    let is = rw c.content_of.ensures at (c.wide-number.ensures ∙ c.word.ensures) in
+    let is = rw c.content_of.ensures at c.word-number.ensures in
     rw is (contest-is (at-had c.args.next.now.at_item) c.if-next-ne-CONTEST.false c.of.result c.of.ensures)

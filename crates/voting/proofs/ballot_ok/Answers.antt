@@ -39,28 +39,28 @@ part-contests-requires c =
     let b = ballot-at c.args.next.now.at_item c.if-next-ne-BALLOT.false (knows c.of-format.ensures).sets in
     omega (arith, sets-few b, ballot-words b _ c.content_of-content.ensures)
 
-pub count-requires : goal.count-requires
-count-requires c =
+pub count-cryptograms-requires : goal.count-cryptograms-requires
+count-cryptograms-requires c =
     omega (arith, c.part-contests.ensures.len, sets-few (ballot-at c.args.next.now.at_item c.if-next-ne-BALLOT.false (knows c.of-format.ensures).sets))
 
 pub overflow_mul-cryptograms : goal.overflow_mul-cryptograms
 overflow_mul-cryptograms c =
     let b = sets-few (ballot-at c.args.next.now.at_item c.if-next-ne-BALLOT.false (knows c.of-format.ensures).sets) in
     let f = c.of-format.result in
-    let is = c.wide-cryptograms.ensures ∙ c.count.ensures ∙ ap size c.part-contests.ensures.value in
-    record { fits = omega (arith, few c.wide-cryptograms.result f.sets f.cryptogram (few-contests _ _ _ is) b (size_is _ c.of-format.ensures).2) }
+    let is = c.count-cryptograms.ensures ∙ ap size c.part-contests.ensures.value in
+    record { fits = omega (arith, few c.count-cryptograms.result f.sets f.cryptogram (few-contests _ _ _ is) b (size_is _ c.of-format.ensures).2) }
 
 pub overflow_add-sets : goal.overflow_add-sets
 overflow_add-sets c =
     let b = sets-few (ballot-at c.args.next.now.at_item c.if-next-ne-BALLOT.false (knows c.of-format.ensures).sets) in
     let f = c.of-format.result in
-    let is = c.wide-cryptograms.ensures ∙ c.count.ensures ∙ ap size c.part-contests.ensures.value in
-    record { fits = omega (arith, b, few c.wide-cryptograms.result f.sets f.cryptogram (few-contests _ _ _ is) b (size_is _ c.of-format.ensures).2) }
+    let is = c.count-cryptograms.ensures ∙ ap size c.part-contests.ensures.value in
+    record { fits = omega (arith, b, few c.count-cryptograms.result f.sets f.cryptogram (few-contests _ _ _ is) b (size_is _ c.of-format.ensures).2) }
 
 pub cryptograms_ok-requires : goal.cryptograms_ok-requires
 cryptograms_ok-requires c =
     let b = sets-few (ballot-at c.args.next.now.at_item c.if-next-ne-BALLOT.false (knows c.of-format.ensures).sets) in
-    let is = c.wide-cryptograms.ensures ∙ c.count.ensures ∙ ap size c.part-contests.ensures.value in
+    let is = c.count-cryptograms.ensures ∙ ap size c.part-contests.ensures.value in
     let k = size_is _ c.of-format.ensures in
     (b, k.1, k.2, few-contests _ _ _ is)
 
@@ -70,7 +70,7 @@ returns-then-may_vote c =
     let b = ballot-at c.args.next.now.at_item c.if-next-ne-BALLOT.false (knows c.of-format.ensures).sets in
     let contests = c.part-contests.ensures.value in
     let each = (size_is _ c.of-format.ensures).0 in
-    let n = c.wide-cryptograms.ensures ∙ c.count.ensures in
+    let n = c.count-cryptograms.ensures in
     elim c.if-content-sets.branch [
       | then-content-sets w ↦
           let may = sym w.value-is ∙ c.if-may_vote.true in
@@ -85,7 +85,7 @@ returns-else-may_vote c =
     let b = ballot-at c.args.next.now.at_item c.if-next-ne-BALLOT.false (knows c.of-format.ensures).sets in
     let contests = c.part-contests.ensures.value in
     let each = (size_is _ c.of-format.ensures).0 in
-    let n = c.wide-cryptograms.ensures ∙ c.count.ensures in
+    let n = c.count-cryptograms.ensures in
     elim c.if-content-sets.branch [
       | then-content-sets w ↦
           let not = sym w.value-is ∙ c.if-may_vote.false in
