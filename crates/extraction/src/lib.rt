@@ -44,7 +44,7 @@ fn trustees_ok(next: &Candidate) -> bool
     let content = content_of(next);
     let trustees = word(content, Content::SET);
     let ones = trustees.count_ones();
-    if content.len() != 1 + words::wide(ones) * Size::SHARE {
+    if content.len() != 1 + ones as usize * Size::SHARE {
         return false;
     }
     let passed = next.passed();

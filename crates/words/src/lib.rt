@@ -9,13 +9,6 @@ ghost use Rattle.model.specs.Above.{is_bad_run};
 ghost use Rattle.model.specs.Program.{from_bytes};
 ghost use Rattle.words.specs.Bytes.{word_of, word_at, to_bytes};
 
-// A word as an index or a count.
-pub fn wide(x: u32) -> usize
-    ensures { result ≡ x }
-{
-    x as usize
-}
-
 // Two words as one number, the high one first.
 pub fn joined(high: u32, low: u32) -> u64
     ensures { result ≡ high * 2 ^ 32 + low }
