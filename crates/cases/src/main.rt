@@ -4,6 +4,7 @@
 
 ghost use Rattle.std.specs.Prelude.{◌≤◌, length};
 
+use audit::Submission;
 use format::limit::Limit;
 use report::Report;
 use std::io::{self, Write};
@@ -69,13 +70,12 @@ fn run<R: Files + Print>(rt: &R, n: usize) -> io::Result<()> {
     let mut roll = [0u32; ROOM];
     let mut index = [0u32; Limit::INDEX];
     let mut ballots = [0u32; Limit::BALLOTS];
-    let report = audit::audit(
-        words_in(rt, n, "board", &mut board)?,
-        words_in(rt, n, "verdicts", &mut verdicts)?,
-        words_in(rt, n, "roll", &mut roll)?,
-        &mut index,
-        &mut ballots,
-    );
+    let submission = Submission {
+        board: words_in(rt, n, "board", &mut board)?,
+        verdicts: words_in(rt, n, "verdicts", &mut verdicts)?,
+        roll: words_in(rt, n, "roll", &mut roll)?,
+    };
+    let report = audit::audit(&submission, &mut index, &mut ballots);
     print_report(rt, &report, &ballots)
 }
 
@@ -85,7 +85,12 @@ fn run_large<R: Print>(rt: &R) -> io::Result<()> {
     let verdicts = [0u32; 1];
     let mut index = [0u32; Limit::INDEX];
     let mut ballots = [0u32; Limit::BALLOTS];
-    let report = audit::audit(&board, &verdicts, &verdicts, &mut index, &mut ballots);
+    let submission = Submission {
+        board: &board,
+        verdicts: &verdicts,
+        roll: &verdicts,
+    };
+    let report = audit::audit(&submission, &mut index, &mut ballots);
     print_report(rt, &report, &ballots)
 }
 
@@ -96,9 +101,14 @@ fn run_short<R: Print>(rt: &R) -> io::Result<()> {
     let mut index = [0u32; Limit::INDEX];
     let mut ballots = [0u32; Limit::BALLOTS];
     let mut shorter = [0u32; Limit::BALLOTS - 1];
-    let first = audit::audit(&board, &board, &board, &mut short, &mut ballots);
+    let submission = Submission {
+        board: &board,
+        verdicts: &board,
+        roll: &board,
+    };
+    let first = audit::audit(&submission, &mut short, &mut ballots);
     print_report(rt, &first, &ballots)?;
-    let second = audit::audit(&board, &board, &board, &mut index, &mut shorter);
+    let second = audit::audit(&submission, &mut index, &mut shorter);
     print_report(rt, &second, &shorter)
 }
 
