@@ -11,6 +11,7 @@ use Rattle.watch.specs.Notes.{agreement}
 use Rattle.exporting.specs.Export.{export_outcome, export_length, text_after}
 use Rattle.planning.specs.Plan.{plan}
 use Rattle.format.specs.Format.{format_of}
+use Rattle.audit.specs.declared.Submission.{Submission}
 use Rattle.audit.specs.Outcome.{Slice, MutSlice, outcome_of}
 use Rattle.entries.specs.Listing.{listing_outcome}
 use Rattle.entries.specs.Answering.{receipts_outcome}
@@ -20,6 +21,10 @@ use Rattle.answers.specs.Words.{overwritten, audit_size, answer_words, compare_s
 -- a slice that an entry writes: its words at entry and at exit
 abbrev pub Buffer : Type 0
 Buffer = MutSlice (MutBor (List ℕ))
+
+-- what an audit is of, from the slices that an entry reads
+abbrev pub lent : {A B C : Type 0} → Slice A → Slice B → Slice C → Submission
+lent board verdicts roll = record { board = board.entry; verdicts = verdicts.entry; roll = roll.entry }
 
 -- whether a buffer has room for an answer of so many words
 abbrev pub has_room : ℕ → List ℕ → Bool
@@ -39,7 +44,7 @@ pub record AuditWritten (f : Format) (outcome : Outcome) (index ballots answer :
 -- of what the caller passed
 abbrev pub Audited : {A B C : Type 0} → Slice A → Slice B → Slice C → Buffer → Buffer → Buffer → Bool → Type 0
 Audited board verdicts roll index ballots answer told =
-    AuditWritten (format_of board.entry.now) (outcome_of board verdicts roll index ballots)
+    AuditWritten (format_of board.entry.now) (outcome_of (lent board verdicts roll) index ballots)
     index.entry.now ballots.entry.now answer.entry.now told
     index.exit.now ballots.exit.now answer.exit.now
 
@@ -60,7 +65,7 @@ pub record ComparisonWritten (kept later : Outcome) (number : ℕ) (kept_index k
 abbrev pub Compared : {A B C D E F : Type 0} → Slice A → Slice B → Slice C → Buffer → Buffer
     → Slice D → Slice E → Slice F → Buffer → Buffer → ℕ → Buffer → Bool → Type 0
 Compared kept kept_verdicts kept_roll kept_index kept_ballots later later_verdicts later_roll later_index later_ballots number answer told =
-    ComparisonWritten (outcome_of kept kept_verdicts kept_roll kept_index kept_ballots) (outcome_of later later_verdicts later_roll later_index later_ballots) number
+    ComparisonWritten (outcome_of (lent kept kept_verdicts kept_roll) kept_index kept_ballots) (outcome_of (lent later later_verdicts later_roll) later_index later_ballots) number
     kept_index.entry.now kept_ballots.entry.now later_index.entry.now later_ballots.entry.now answer.entry.now told
     kept_index.exit.now kept_ballots.exit.now later_index.exit.now later_ballots.exit.now answer.exit.now
 
@@ -79,7 +84,7 @@ pub record ListingWritten (outcome : Outcome) (number : ℕ) (index ballots list
 -- of what the caller passed
 abbrev pub Listed : {A B C : Type 0} → Slice A → Slice B → Slice C → ℕ → Buffer → Buffer → Buffer → Buffer → Bool → Type 0
 Listed board verdicts roll number index ballots list answer told =
-    ListingWritten (listing_outcome board verdicts roll index ballots list) number
+    ListingWritten (listing_outcome (lent board verdicts roll) index ballots list) number
     index.entry.now ballots.entry.now list.entry.now answer.entry.now told
     index.exit.now ballots.exit.now list.exit.now answer.exit.now
 
@@ -95,7 +100,7 @@ pub record AnswersWritten (f : Format) (receipts : List ℕ) (outcome : Outcome)
 -- of what the caller passed
 abbrev pub Answered : {A B C D : Type 0} → Slice A → Slice B → Slice C → Slice D → Buffer → Buffer → Buffer → Buffer → Bool → Type 0
 Answered board verdicts roll receipts index ballots answers answer told =
-    AnswersWritten (format_of board.entry.now) receipts.entry.now (receipts_outcome board verdicts roll receipts index ballots answers)
+    AnswersWritten (format_of board.entry.now) receipts.entry.now (receipts_outcome (lent board verdicts roll) receipts index ballots answers)
     index.entry.now ballots.entry.now answers.entry.now answer.entry.now told
     index.exit.now ballots.exit.now answers.exit.now answer.exit.now
 
@@ -114,7 +119,7 @@ pub record HeldWritten (f : Format) (notes : List ℕ) (outcome : Outcome) (inde
 -- of what the caller passed
 abbrev pub Held : {A B C D : Type 0} → Slice A → Slice B → Slice C → Slice D → Buffer → Buffer → Buffer → Bool → Type 0
 Held board verdicts roll notes index ballots answer told =
-    HeldWritten (format_of board.entry.now) notes.entry.now (notes_outcome board verdicts roll notes index ballots)
+    HeldWritten (format_of board.entry.now) notes.entry.now (notes_outcome (lent board verdicts roll) notes index ballots)
     index.entry.now ballots.entry.now answer.entry.now told
     index.exit.now ballots.exit.now answer.exit.now
 
@@ -134,7 +139,7 @@ pub record ExportWritten (f : Format) (outcome : Outcome) (index ballots text an
 -- of what the caller passed
 abbrev pub Exported : {A B C : Type 0} → Slice A → Slice B → Slice C → Buffer → Buffer → Buffer → Buffer → Bool → Type 0
 Exported board verdicts roll index ballots text answer told =
-    ExportWritten (format_of board.entry.now) (outcome_of board verdicts roll index ballots)
+    ExportWritten (format_of board.entry.now) (outcome_of (lent board verdicts roll) index ballots)
     index.entry.now ballots.entry.now text.entry.now answer.entry.now told
     index.exit.now ballots.exit.now text.exit.now answer.exit.now
 

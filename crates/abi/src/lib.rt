@@ -5,6 +5,7 @@
 ghost use Rattle.abi.specs.Written.{Audited, Compared, Listed, Answered, Held, Exported, Planned};
 
 use answers::Size;
+use audit::Submission;
 use entries::{answering, comparing, listing, watching, writing};
 use plan::Plan;
 
@@ -24,7 +25,12 @@ pub extern "C" fn tirfolma_audit(
     if answer.len() < Size::AUDIT {
         return false;
     }
-    let report = audit::audit(board, verdicts, roll, index, ballots);
+    let submission = Submission {
+        board,
+        verdicts,
+        roll,
+    };
+    let report = audit::audit(&submission, index, ballots);
     answers::put_report(report, answer);
     true
 }
@@ -52,13 +58,19 @@ pub extern "C" fn tirfolma_compare(
     if answer.len() < Size::COMPARE {
         return false;
     }
+    let kept = Submission {
+        board: kept,
+        verdicts: kept_verdicts,
+        roll: kept_roll,
+    };
+    let later = Submission {
+        board: later,
+        verdicts: later_verdicts,
+        roll: later_roll,
+    };
     let comparison = comparing::compare(
-        kept,
-        kept_verdicts,
-        kept_roll,
-        later,
-        later_verdicts,
-        later_roll,
+        &kept,
+        &later,
         number,
         kept_index,
         kept_ballots,
@@ -87,7 +99,12 @@ pub extern "C" fn tirfolma_ancestry(
     if answer.len() < Size::ANCESTRY {
         return false;
     }
-    let listing = listing::ancestry(board, verdicts, roll, number, index, ballots, list);
+    let submission = Submission {
+        board,
+        verdicts,
+        roll,
+    };
+    let listing = listing::ancestry(&submission, number, index, ballots, list);
     answers::put_listing(listing, answer);
     true
 }
@@ -110,7 +127,12 @@ pub extern "C" fn tirfolma_receipts(
     if answer.len() < Size::AUDIT {
         return false;
     }
-    let report = answering::receipts(board, verdicts, roll, receipts, index, ballots, answers);
+    let submission = Submission {
+        board,
+        verdicts,
+        roll,
+    };
+    let report = answering::receipts(&submission, receipts, index, ballots, answers);
     answers::put_report(report, answer);
     true
 }
@@ -132,9 +154,13 @@ pub extern "C" fn tirfolma_notes(
     if answer.len() < Size::NOTES {
         return false;
     }
-    let held = watching::notes(board, verdicts, roll, notes, index, ballots);
-    let agreement = held.agreement;
-    answers::put_held(held.report, agreement, answer);
+    let submission = Submission {
+        board,
+        verdicts,
+        roll,
+    };
+    let held = watching::notes(&submission, notes, index, ballots);
+    answers::put_held(held, answer);
     true
 }
 
@@ -155,8 +181,13 @@ pub extern "C" fn tirfolma_export(
     if answer.len() < Size::EXPORT {
         return false;
     }
-    let exported = writing::export(board, verdicts, roll, index, ballots, text);
-    answers::put_exported(exported.report, exported.bytes, answer);
+    let submission = Submission {
+        board,
+        verdicts,
+        roll,
+    };
+    let exported = writing::export(&submission, index, ballots, text);
+    answers::put_exported(exported, answer);
     true
 }
 
