@@ -10,4 +10,4 @@ pub returns : goal.returns
 returns c =
     let a = c.ancestry-listing in
     listed-told _ c.args.number c.args.index.now c.args.ballots.now c.args.list.now c.args.answer.now c.if-answer-lt-ANCESTRY.false
-    a.result a.ensures.answer a.ensures.index a.ensures.ballots a.ensures.list c.put_listing.ensures
+    a.ensures.answer a.ensures.index a.ensures.ballots a.ensures.list c.put_listing.ensures

@@ -8,5 +8,5 @@ returns-then-answer-lt-AUDIT c = audited-short _ _ c.args.index.now c.args.ballo
 pub returns : goal.returns
 returns c =
     let a = c.audit-report in
-    audited-told _ _ c.args.index.now c.args.ballots.now c.args.answer.now c.if-answer-lt-AUDIT.false a.result a.ensures.answer
+    audited-told _ _ c.args.index.now c.args.ballots.now c.args.answer.now c.if-answer-lt-AUDIT.false a.ensures.answer
     a.ensures.index a.ensures.ballots c.put_report.ensures

@@ -11,5 +11,5 @@ pub returns : goal.returns
 returns c =
     let a = c.compare-comparison in
     compared-told _ _ c.args.number c.args.kept_index.now c.args.kept_ballots.now c.args.later_index.now c.args.later_ballots.now
-    c.args.answer.now c.if-answer-lt-COMPARE.false a.result a.ensures.answer a.ensures.kept_index a.ensures.kept_ballots a.ensures.later_index
+    c.args.answer.now c.if-answer-lt-COMPARE.false a.ensures.answer a.ensures.kept_index a.ensures.kept_ballots a.ensures.later_index
     a.ensures.later_ballots c.put_comparison.ensures

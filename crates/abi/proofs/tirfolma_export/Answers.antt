@@ -12,5 +12,4 @@ returns c =
     let s = c.args in
     let r = c.export-exported in
     let e = r.ensures in
-    exported-told _ _ s.index.now s.ballots.now s.text.now s.answer.now c.if-answer-lt-EXPORT.false r.result.report e.report r.result.bytes
-    e.bytes e.index e.ballots e.text c.put_exported.ensures
+    exported-told _ _ s.index.now s.ballots.now s.text.now s.answer.now c.if-answer-lt-EXPORT.false e.report e.bytes e.index e.ballots e.text c.put_exported.ensures

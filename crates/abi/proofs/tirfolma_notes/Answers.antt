@@ -12,5 +12,4 @@ returns c =
     let s = c.args in
     let held = c.notes-held in
     let e = held.ensures in
-    held-told _ s.notes.now _ s.index.now s.ballots.now s.answer.now c.if-answer-lt-NOTES.false held.result.report e.report
-    held.result.agreement e.agreement e.index e.ballots c.put_held.ensures
+    held-told _ s.notes.now _ s.index.now s.ballots.now s.answer.now c.if-answer-lt-NOTES.false e.report e.agreement e.index e.ballots c.put_held.ensures

@@ -8,4 +8,4 @@ returns-then-answer-lt-PLAN c = planned-short c.args.board.now c.args.answer.now
 pub returns : goal.returns
 returns c =
     let p = c.of-plan in
-    planned-told c.args.board.now c.args.answer.now c.if-answer-lt-PLAN.false p.result p.ensures c.put_plan.ensures
+    planned-told c.args.board.now c.args.answer.now c.if-answer-lt-PLAN.false p.ensures c.put_plan.ensures

@@ -11,5 +11,5 @@ pub returns : goal.returns
 returns c =
     let s = c.args in
     let a = c.receipts-report in
-    answered-told _ s.receipts.now _ s.index.now s.ballots.now s.answers.now s.answer.now c.if-answer-lt-AUDIT.false a.result
+    answered-told _ s.receipts.now _ s.index.now s.ballots.now s.answers.now s.answer.now c.if-answer-lt-AUDIT.false
     a.ensures.answer a.ensures.index a.ensures.ballots a.ensures.answers c.put_report.ensures
