@@ -21,23 +21,11 @@ use Rattle.model.specs.Keys.{key_of, verdict_ok, key_ok, signature_ok}
 use Rattle.model.specs.Audit.{Check, first_unmet, checks}
 use Rattle.model.proofs.Tests.{by-test}
 use Rattle.model.proofs.Checks.{Numbers}
-use Rattle.refusal.specs.Number.{found_of}
-use Rattle.refusal.specs.declared.Refusal.{Refusal}
-use Rattle.refusal.proofs.Laws.{number-some}
-use Rattle.std.specs.Prelude.{Result, Ok, Err, ⊤}
 use Rattle.judge.specs.Checks.{link_checks, rule_checks, verdict_checks}
 
 -- what the code was told of a rule, and what that was
 pub told : {a b r : Bool} → a ≡ b → a ≡ r → b ≡ r
 told e q = sym e ∙ q
-
--- ---- what the checks find, as a number
-
-pub found_some : {d : Result ⊤ Refusal} {x : Refusal} → d ≡ Err x → 1 ≤ found_of d
-found_some {x = x} e = rw e (number-some x)
-
-pub found_none : {d : Result ⊤ Refusal} {u : ⊤} {n : ℕ} → d ≡ Ok u → found_of d ≡ n → 0 ≡ n
-found_none e q = rw e at q
 
 -- ---- some checks, and those behind them
 

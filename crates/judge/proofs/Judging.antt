@@ -23,7 +23,7 @@ use Rattle.format.specs.Table.{row_of, counts_of}
 use Rattle.format.specs.declared.head.Head.{Head}
 use Rattle.format.specs.declared.item.Item.{Item}
 use Rattle.format.specs.declared.table.Row.{Row}
-use Rattle.std.specs.Prelude.{Option}
+use Rattle.std.specs.Prelude.{Option, Some}
 use Rattle.index.specs.Kept.{Kept}
 use Rattle.index.specs.Known.{Passing}
 use Rattle.index.specs.declared.Known.{Known}
@@ -44,6 +44,26 @@ pub listed-row : (board : List ℕ) (s : State) {head : Head} (listing : Option 
 unfolding types.row_of
 listed-row board s listing is same found = sym (rw (is, same) at found)
 
+-- a listed head whose count fits
+pub record Fitting (board : List ℕ) (s : State) (row : Row) : Type 0 where
+  pub listed : IsRow board s row
+  pub counted : types.fits (counts_of row.counts) (count_of (get_or board s.place 0)) ≡ true
+
+-- what the code was told of a count
+count-told : (board : List ℕ) (s : State) {head : Head} (counts : types.Counts) {b a : Bool} → head ≡ head_of (get_or board s.place 0)
+    → b ≡ types.fits counts head.count → b ≡ a → types.fits counts (count_of (get_or board s.place 0)) ≡ a
+count-told board s counts is e q = sym (e ∙ ap (λ (h : Head). types.fits counts h.count) is) ∙ q
+
+module _ (board : List ℕ) (s : State) {head : Head} {found : Option Row} {row : Row} {b : Bool} (is : head ≡ head_of (get_or board s.place 0))
+    (some : found ≡ Some row) (told : row_of head.kind head.code found ≡ types.row_in head.kind head.code (types.table (format_of board)))
+    (fit : b ≡ types.fits (counts_of row.counts) head.count) where
+  pub fitting : b ≡ true → Fitting board s row
+  fitting q = record { listed = listed-row board s (Some row) is some told; counted = count-told board s (counts_of row.counts) is fit q }
+
+  pub unfitting : (verdicts roll : List ℕ) → b ≡ false → fault_after board verdicts roll s ≡ wrong_count
+  unfolding fault_in head_fault if◌then◌otherwise◌
+  unfitting verdicts roll q = rw (listed-row board s (Some row) is some told, count-told board s (counts_of row.counts) is fit q)
+
 module _ (board verdicts roll : List ℕ) (s : State) where
   abbrev word : ℕ
   word = get_or board s.place 0
@@ -52,31 +72,21 @@ module _ (board verdicts roll : List ℕ) (s : State) where
   unfolding fault_in head_fault
   fault-unlisted q = rw q
 
-  -- the count that the code tested is that of the head
-  pub count-told : {head : Head} (counts : types.Counts) {b : Bool} → head ≡ head_of word → b ≡ types.fits counts head.count
-      → {a : Bool} → b ≡ a → types.fits counts (count_of word) ≡ a
-  count-told counts is e q = sym (e ∙ ap (λ (h : Head). types.fits counts h.count) is) ∙ q
-
-  module _ (row : Row) (is : IsRow board s row) where
-    pub fault-count : types.fits (counts_of row.counts) (count_of word) ≡ false → fault_after board verdicts roll s ≡ wrong_count
+  module _ (row : Row) (f : Fitting board s row) where
+    pub fault_past : {item : Item} → item ≡ item_of board s.place → length board < item.end → fault_after board verdicts roll s ≡ truncated
     unfolding fault_in head_fault if◌then◌otherwise◌
-    fault-count q = rw (is, q)
+    fault_past at_place l = rw (f.listed, f.counted, lt-ltb _ _ (rw (item-end board s.place at_place) at l))
 
-    module _ (counted : types.fits (counts_of row.counts) (count_of word) ≡ true) where
-      pub fault_past : {item : Item} → item ≡ item_of board s.place → length board < item.end → fault_after board verdicts roll s ≡ truncated
-      unfolding fault_in head_fault if◌then◌otherwise◌
-      fault_past at_place l = rw (is, counted, lt-ltb _ _ (rw (item-end board s.place at_place) at l))
-
-      -- 7 to 16 and 21
-      pub fault-checks : Stands board s → behind (format_of board) board s.place ≤ length board
-          → fault_after board verdicts roll s ≡ first_unmet (checks_of board (on_roll roll) (verdict_at verdicts s.items) s row)
-      unfolding fault_in head_fault if◌then◌otherwise◌
-      fault-checks stands l = rw (is, counted, le-ltb _ _ l, length-history (format_of board) board s.items, stands.place)
+    -- 7 to 16 and 21
+    pub fault-checks : Stands board s → behind (format_of board) board s.place ≤ length board
+        → fault_after board verdicts roll s ≡ first_unmet (checks_of board (on_roll roll) (verdict_at verdicts s.items) s row)
+    unfolding fault_in head_fault if◌then◌otherwise◌
+    fault-checks stands l = rw (f.listed, f.counted, le-ltb _ _ l, length-history (format_of board) board s.items, stands.place)
 
 -- ---- the item at hand
 
 module _ {board index : List ℕ} {s : State} (kept : Kept board index s.items) (stands : Stands board s) (more : s.items < item_limit)
-    (row : Row) (is : IsRow board s row) (counted : types.fits (counts_of row.counts) (count_of (get_or board s.place 0)) ≡ true)
+    (row : Row) (f : Fitting board s row)
     {item : Item} (is-item : item ≡ item_of board s.place) (within : item.end ≤ length board) where
   pub judged-at : (c : Known) → c ≡ known_next board s → AtItem board index s c
   unfolding entry_of
@@ -85,8 +95,8 @@ module _ {board index : List ℕ} {s : State} (kept : Kept board index s.items) 
     stands = stands;
     more = more;
     known = known;
-    listed = record { row = row_with board s row; found = is };
-    counted = passes counted;
+    listed = record { row = row_with board s row; found = f.listed };
+    counted = passes f.counted;
     within = rw (known, ← is-item) within;
   }
 
@@ -95,7 +105,7 @@ module _ {board index : List ℕ} {s : State} (kept : Kept board index s.items) 
 
   -- what is found of 7 to 16 and 21 is the answer
   pub judged-fault : (verdicts roll : List ℕ) (n : ℕ) → n ≡ first_unmet (checks_of board (on_roll roll) (verdict_at verdicts s.items) s row) → fault_after board verdicts roll s ≡ n
-  judged-fault verdicts roll n e = fault-checks board verdicts roll s row is counted stands fit ∙ sym e
+  judged-fault verdicts roll n e = fault-checks board verdicts roll s row f stands fit ∙ sym e
 
   -- an item without a refusal passes
   pub judged-passing : (verdicts roll : List ℕ) (c : Known) → c ≡ known_next board s

@@ -37,7 +37,12 @@ fn links_finding(listed: &ListedItem) -> Result<(), Refusal>
 }
 
 // The rules of its type.
-fn rules_finding(listed: &ListedItem, roll: &Roll, ballots: &[u32], sessions: &[u32]) -> Result<(), Refusal>
+fn rules_finding(
+    listed: &ListedItem,
+    roll: &Roll,
+    ballots: &[u32],
+    sessions: &[u32],
+) -> Result<(), Refusal>
     requires tallied { Tallied listed.now.candidate.now.board.now ballots.now listed.now.candidate.now.state.items }
     requires sessions { sessions.now ≡ session_chain listed.now.candidate.now.board.now listed.now.candidate.now.state.items }
     ensures { (v : List ℕ) → found_of result ≡ first_unmet (rule_checks (checks_at listed.now (on_roll roll.now.words.now) v)) }
