@@ -47,7 +47,7 @@ impl<'a> Roll<'a> {
     }
 
     // Whether it has that voter with that weight. The voter is found by halving what is left of the pairs.
-    // Kept: that 12 looks are enough is proved here, and the library's `binary_search_by_key` says of no number of looks.
+    // Kept: it is proved that 12 looks are enough (docs/PROMISES.md); the library's `binary_search_by_key` promises no number of looks.
     pub fn has(&self, voter: u32, weight: u32) -> bool
         ensures { result ≡ on_roll self.now.words.now voter weight }
     {
