@@ -1,7 +1,6 @@
 -- Sets of numbers as words: each test of a set, of any number of words, as a test of each word, which is how the code makes it. Assumes nothing.
 use Prim.Native.Nat.{ℕ, zero, suc, ◌+◌, ◌-◌, ◌*◌, ◌/◌, ◌%◌, ◌^◌, ◌≤◌, ◌<◌, zero-le}
-use native.Mathlib.Nat.{not-suc-le-zero, zero-add, add-zero, add-suc, mul-zero, mul-suc, mul_comm}
-use native.Mathlib.Numerals.{add-one}
+use native.Mathlib.Nat.{zero-add, add-zero, add-suc, mul-zero, mul-suc, mul_comm}
 use native.Mathlib.Omega.{arith}
 use mathlib.Core.Path.{◌≡◌, refl, sym, ap, ap₂, ◌∙◌}
 use mathlib.Core.Bool.{Bool, true, false, ◌&&◌, ◌||◌, and-false, and-true}
@@ -21,27 +20,6 @@ use Rattle.std.proofs.lemmas.List.Sums.{sum_by-cons}
 use Rattle.sets.proofs.Bits.{bit-or, every_below-low, all-below, all_bits, all_bits-bit, ones-few, ones-zero, ones-all}
 
 -- ---- every number below n, from the lowest on
-
--- a loop from 0 up: its beginning, one step, its end and its early end
-module _ (p : ℕ → Bool) where
-  pub every_below-none : every_below 0 p ≡ true
-  unfolding every_below
-  every_below-none = refl
-
-  pub every_below-next : (k : ℕ) → every_below k p ≡ true → p k ≡ true → every_below (k + 1) p ≡ true
-  unfolding every_below
-  every_below-next k all q = rw (add-one, q, all)
-
-  pub every_below-done : (n k : ℕ) → k ≤ n → n ≤ k → every_below k p ≡ true → every_below n p ≡ true
-  every_below-done n k l m all = let same : n ≡ k = omega arith in rw same all
-
-  pub every_below-fails : (n k : ℕ) → k < n → p k ≡ false → every_below n p ≡ false
-  unfolding every_below
-  every_below-fails zero k l q = absurd (not-suc-le-zero l)
-  every_below-fails (suc n) k l q =
-      by-test (eqb k n)
-      (λ e. rw (← eqb-true k n e, q))
-      (λ e. rw (every_below-fails n k (omega (arith, eqb-false k n e)) q) (and-false (p n)))
 
 -- the numbers below m + n, and those below g * n as n groups
 every_below-add : (m n : ℕ) (p : ℕ → Bool) → every_below (m + n) p ≡ (every_below n (λ j. p (m + j)) && every_below m p)

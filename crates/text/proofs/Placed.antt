@@ -1,17 +1,14 @@
 -- Laws of text put into bytes: one text after another, and text at the start. Assumes nothing.
-use Prim.Native.Nat.{ℕ, suc, ◌+◌, ◌≤◌, ◌<◌}
-use native.Mathlib.Nat.{add-zero, zero-add, add-suc, suc-add, add_assoc}
+use Prim.Native.Nat.{ℕ, ◌+◌, ◌≤◌, ◌<◌}
+use native.Mathlib.Nat.{add-zero, zero-add, add_assoc}
 use native.Mathlib.Omega.{arith}
 use mathlib.Core.Path.{◌≡◌, refl, sym, ap, ◌∙◌}
 use mathlib.Core.List.{List, [], ◌∷◌, ◌++◌}
 use lib.ListN.{length, set, length-append}
-use lib.Seq.{sets, sets-eq, length-sets}
+use lib.Seq.{sets-eq, length-sets}
+use Rattle.words.proofs.Writing.{sets-append}
 use Rattle.text.specs.declared.writer.Writer.{Writer}
 use Rattle.text.specs.Put.{Put, Writes, Shown}
-
-sets-append : (l : List ℕ) (i : ℕ) (a b : List ℕ) → sets l i (a ++ b) ≡ sets (sets l i a) (i + length a) b
-sets-append l i [] b = rw add-zero
-sets-append l i (x ∷ a) b = rw (add-suc, ← suc-add) (sets-append (set l i x) (suc i) a b)
 
 -- nothing is put
 pub put-none : (l : List ℕ) (i k : ℕ) → i ≤ length l → k ≡ i → Put l i [] l k
@@ -29,7 +26,7 @@ length-put {l} {m} {i} {k} {a} p = ap length p.wrote ∙ length-sets l i a
 pub put_then : {l m n : List ℕ} {i j k : ℕ} {a b : List ℕ} → Put l i a m j → Put m j b n k → Put l i (a ++ b) n k
 put_then {l} {m} {n} {i} {j} {k} {a} {b} p q = record {
   fits = rw length-append (omega (arith, length-put p, p.behind, q.fits));
-  wrote = q.wrote ∙ rw (p.wrote, p.behind) (sym (sets-append l i a b));
+  wrote = q.wrote ∙ rw (p.wrote, p.behind) (sets-append l a b i (i + length a) refl);
   behind = q.behind ∙ rw (p.behind, length-append) (add_assoc i (length a) (length b));
 }
 

@@ -1,20 +1,14 @@
 -- Laws of words that are written into a buffer. Assumes nothing.
 use mathlib.Core.Path.{◌≡◌, sym, ap, ◌∙◌}
 use mathlib.Core.List.{List, [], ◌∷◌, ◌++◌}
-use Prim.Native.Nat.{ℕ, zero, suc, ◌+◌, ◌-◌, ◌≤◌, ◌<◌}
-use native.Mathlib.Nat.{suc-add, zero-add, sub-zero, zero-sub, suc-sub-suc}
+use Prim.Native.Nat.{ℕ, zero, suc, ◌+◌, ◌-◌, ◌≤◌}
+use native.Mathlib.Nat.{zero-add, sub-zero, zero-sub, suc-sub-suc}
 use native.Mathlib.Omega.{arith}
-use lib.ListN.{length, take, drop, get_or, set, replicate, length-replicate}
+use lib.ListN.{length, drop, set, replicate, length-replicate}
 use lib.Seq.{sets, sets-eq, take-length}
 use borrow.Rule.Slice.PartMut.{put_mid}
 use Rattle.std.proofs.lemmas.Slice.{put_mid-paste}
 use Rattle.model.specs.Report.{filled}
-
--- a word more
-pub sets_more : (l ws : List ℕ) (at i k : ℕ) → k ≡ at + i → i < length ws → set (sets l at (take i ws)) k (get_or ws i 0) ≡ sets l at (take (i + 1) ws)
-sets_more l [] at i k e h = absurd (omega arith)
-sets_more l (w ∷ ws) at zero k e h = let same : k ≡ at = omega arith in rw same
-sets_more l (w ∷ ws) at (suc i) k e h = rw (suc-add) (sets_more (set l at w) ws (suc at) i k (omega arith) (omega arith))
 
 -- two runs, one behind the other
 pub sets-append : (l a b : List ℕ) (at k : ℕ) → k ≡ at + length a → sets (sets l at a) k b ≡ sets l at (a ++ b)
