@@ -4,7 +4,7 @@ use native.Mathlib.Nat.{add-zero}
 use native.Mathlib.Omega.{arith}
 use mathlib.Core.Path.{◌≡◌, sym, ap, ◌∙◌}
 use mathlib.Core.Logic.{◌≢◌}
-use mathlib.Core.Bool.{Bool, true, false, not, and-true, and-false, beq}
+use mathlib.Core.Bool.{Bool, true, false, not, and-true, beq}
 use mathlib.Core.List.{List}
 use lib.ListN.{length, get_or}
 use lib.Dec.{eqb}
@@ -12,7 +12,7 @@ use borrow.Author.Tests.{eq-eqb, ne_eqb, not-true, not-false}
 use Rattle.model.specs.Lists.{if◌then◌otherwise◌, part}
 use Rattle.model.specs.Words.{main_kind, same_words}
 use Rattle.model.specs.Codes.{session_type}
-use Rattle.model.specs.Item.{item_at, item_length, code}
+use Rattle.model.specs.Item.{item_at, item_length}
 use Rattle.model.specs.History.{Entry, entry, main, child_of}
 use Rattle.model.specs.Phase.{session_of}
 use Rattle.format.specs.Format.{format_of}
@@ -44,16 +44,9 @@ module _ (board : List ℕ) (p : ℕ) {i : Item} (e : i ≡ item_of board p) whe
   pub address-width : i.end - i.address ≡ (format_of board).address
   address-width = omega (arith, address-end)
 
--- a child of another parent
-pub child-other : (e : Entry) (parent : ℕ) (q : ℕ → Bool) → e.parent ≢ parent → false ≡ child_of parent q e
-child-other e parent q n = rw (ne_eqb e.parent parent n) (sym (and-false (q (code e.item))))
-
 -- ---- a test's answer of the view is that of the entry
 
 module _ {board : List ℕ} {e : Entry} {c : Known} (is : IsKnown board e c) where
-  pub told-from : (p : Entry → Bool) {r : Bool} → r ≡ p (entry_from board c) → r ≡ p e
-  told-from p q = q ∙ ap p (from-known is)
-
   pub told-left : (left : ℕ) {rest : ℕ} → rest ≡ (if eqb c.item.head.kind main_kind then left - 1 otherwise left)
       → rest ≡ (if main e then left - 1 otherwise left)
   told-left left q = q ∙ rw (known-main is)

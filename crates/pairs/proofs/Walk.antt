@@ -25,10 +25,6 @@ pub mains-few : {board index : List ℕ} {n : ℕ} → Kept board index n → co
 mains-few {board} {n = n} kept = omega (arith, count-few main (before board n), length-history (format_of board) board n, kept.few)
 
 -- two items that are read: a test of what stands on the boards is that of the items
-pub items-hashed : {kept later : List ℕ} {i j : model.Item} {a b : Item} {r : Bool} → IsItem kept i a → IsItem later j b
-    → r ≡ same_words (hashed (item_at (format_of kept) kept a.place)) (hashed (item_at (format_of later) later b.place)) → r ≡ same_words (hashed i) (hashed j)
-items-hashed x y q = q ∙ rw (x.item, y.item)
-
 pub items-addressed : {kept later : List ℕ} {i j : model.Item} {a b : Item} {r : Bool} → IsItem kept i a → IsItem later j b
     → r ≡ same_words (take (a.end - a.address) (drop a.address kept)) (take (b.end - b.address) (drop b.address later))
     → r ≡ same_words i.address j.address

@@ -6,9 +6,6 @@ use Rattle.ancestry.proofs.Answering.{none-zero, none-past, some-asked}
 use Rattle.ancestry.proofs.list_accepted.Goals as goal
 use Rattle.ancestry.proofs.list_accepted.Goals.{then-number-eq0-via-then-number-eq0, then-number-eq0-via-else-number-eq0+then-count-number}
 
-pub after-requires : goal.after-requires
-after-requires c = (kept-had c.args.passed.now.kept).few
-
 pub returns-then-number-eq0 : goal.returns-then-number-eq0
 returns-then-number-eq0 c =
     let p = c.args.passed.now in

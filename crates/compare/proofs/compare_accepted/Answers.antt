@@ -1,5 +1,4 @@
 -- `compare_accepted` meets its contract: 19 by the main number, and else what the pairs say. Assumes nothing.
-use native.Mathlib.Omega.{arith}
 use mathlib.Core.Path.{ap}
 use Rattle.model.specs.Comparing.{compared}
 use Rattle.compare.proofs.Answering.{none-zero, none-past, some-asked}
@@ -12,15 +11,6 @@ returns-then-number-eq0 c =
       | then-number-eq0-via-then-number-eq0 w ↦ rw c.after.ensures (none-zero _ _ _ _ _ c.args.later.now.counted w.if-number-eq0.true)
       | then-number-eq0-via-else-number-eq0+then-later-number w ↦ rw c.after.ensures (none-past _ _ _ _ _ c.args.later.now.counted w.if-later-number.true)
     ]
-
-pub compare-requires : goal.compare-requires
-compare-requires c =
-    let k = c.args.kept.now in
-    let l = c.args.later.now in
-    record {
-      a_all = (k.opened, k.counted);
-      b_in = record { some = omega arith; few = omega (arith, l.counted) };
-    }
 
 pub returns : goal.returns
 returns c =

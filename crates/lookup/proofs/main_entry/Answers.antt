@@ -30,9 +30,6 @@ loop-k-init c =
     let left = main-left p.board.now p.count c.args.number some in
     (some, rw c.mains_before.ensures left, rw c.mains_before.ensures (main-begins p.board.now p.count c.args.number some))
 
-pub left_after-left-requires : goal.left_after-left-requires
-left_after-left-requires c = c.loop-k.invariant.1
-
 pub returns-then-left-eq0 : goal.returns-then-left-eq0
 returns-then-left-eq0 c =
     let l = c.loop-k in

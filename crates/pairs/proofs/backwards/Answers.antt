@@ -7,14 +7,6 @@ use Rattle.index.proofs.Had.{kept-had}
 use Rattle.pairs.proofs.Walk.{mains-few, backwards-ends, backwards-differ, backwards-goes}
 use Rattle.pairs.proofs.backwards.Goals as goal
 
-pub same_pair-requires : goal.same_pair-requires
-same_pair-requires c =
-    let kept = c.requires.a_in in
-    let later = c.requires.b_in in record {
-      a_in = record { some = omega arith; few = omega arith };
-      b_in = record { some = omega arith; few = omega arith };
-    }
-
 pub overflow_cast-result : goal.overflow_cast-result
 overflow_cast-result c = omega (arith, c.requires.a_in, mains-few (kept-had c.args.kept.now.kept))
 
