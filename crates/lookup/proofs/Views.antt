@@ -4,11 +4,11 @@ use native.Mathlib.Nat.{add-zero}
 use native.Mathlib.Omega.{arith}
 use mathlib.Core.Path.{◌≡◌, sym, ap, ◌∙◌}
 use mathlib.Core.Logic.{◌≢◌}
-use mathlib.Core.Bool.{Bool, true, false, not, and-true, beq}
+use mathlib.Core.Bool.{Bool, true, false, and-true, beq}
 use mathlib.Core.List.{List}
 use lib.ListN.{length, get_or}
 use lib.Dec.{eqb}
-use borrow.Author.Tests.{eq-eqb, ne_eqb, not-true, not-false}
+use borrow.Author.Tests.{eq-eqb, ne_eqb}
 use Rattle.model.specs.Lists.{if◌then◌otherwise◌, part}
 use Rattle.model.specs.Words.{main_kind, same_words}
 use Rattle.model.specs.Codes.{session_type}
@@ -56,19 +56,13 @@ module _ {board : List ℕ} {e : Entry} {c : Known} (is : IsKnown board e c) whe
   pub child-same : (parent type : ℕ) → e.parent ≡ parent → eqb c.item.head.code type ≡ child_of parent (λ x. eqb x type) e
   child-same parent type q = rw (← known-code is, eq-eqb e.parent parent q) (sym (and-true (eqb c.item.head.code type)))
 
-  pub addressed-other : (m : Bool) (address : List ℕ) → not (beq (eqb c.item.head.kind main_kind) m) ≡ true → false ≡ addressed m address e
-  addressed-other m address q = rw (← known-main is, not-true (beq (eqb c.item.head.kind main_kind) m) q)
+  module _ (m : Bool) (address : List ℕ) where
+    pub addressed-other : beq (eqb c.item.head.kind main_kind) m ≡ false → beq (eqb c.item.head.kind main_kind) m ≡ addressed m address e
+    addressed-other q = rw (← known-main is, q)
 
-  pub known-end : c.item.end ≡ c.item.address + (format_of board).address
-  known-end = address-end board e.place (known-item is)
-
-  pub known-width : c.item.end - c.item.address ≡ (format_of board).address
-  known-width = address-width board e.place (known-item is)
-
-  pub addressed-same : (m : Bool) (address : List ℕ) → length address ≡ (format_of board).address → not (beq (eqb c.item.head.kind main_kind) m) ≡ false
-      → {r : Bool} → r ≡ same_words (part c.item.address (length address) board) address → r ≡ addressed m address e
-  addressed-same m address width q s =
-      s ∙ rw (width, ← known-main is, not-false (beq (eqb c.item.head.kind main_kind) m) q, known-address is)
+    pub addressed-same : length address ≡ (format_of board).address → beq (eqb c.item.head.kind main_kind) m ≡ true
+        → {r : Bool} → r ≡ same_words (part c.item.address (length address) board) address → r ≡ addressed m address e
+    addressed-same width q s = s ∙ rw (width, ← known-main is, q, known-address is)
 
   pub session-other : (voter : ℕ) → c.item.head.code ≢ session_type → false ≡ session_of voter e
   session-other voter n = rw (← known-code is, ne_eqb c.item.head.code session_type n)

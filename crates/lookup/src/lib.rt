@@ -28,13 +28,11 @@ fn is_addressed(passed: &Passed, k: usize, main: bool, address: &[u32]) -> bool
     ensures { result ≡ addressed main address.now (entry (history_of passed.now) k) }
 {
     let item = passed.entry(k).item;
-    if (item.head.kind == Head::MAIN) != main {
-        return false;
-    }
-    words::same_words(
-        words::part(passed.board, item.address, address.len()),
-        address,
-    )
+    (item.head.kind == Head::MAIN) == main
+        && words::same_words(
+            words::part(passed.board, item.address, address.len()),
+            address,
+        )
 }
 
 // The number of the first item, main or hidden, with an address; 0 where there is none. The chain of its bucket goes from the latest item

@@ -6,6 +6,7 @@ use mathlib.Core.List.{List}
 use lib.ListN.{get_or, replicate}
 use lib.Dec.{lit<}
 use Rattle.chains.specs.Chain.{buckets, chain_words, linked, chain}
+use Rattle.model.specs.Receipts.{receipt_size}
 use Rattle.format.specs.Format.{format_of}
 use Rattle.lookup.proofs.Buckets.{address-small}
 use Rattle.receipts.specs.Answering.{by_receipt}
@@ -21,8 +22,8 @@ unfolding chain
 chain-begins board receipts e = e
 
 -- receipt k from 0 on, as the code finds its bucket
-pub chain_next : (board receipts : List ℕ) (k : ℕ) {s a : ℕ} → s ≡ (format_of board).signature → a ≡ (format_of board).address
-    → {r : ℕ} → r ≡ get_or receipts ((s + a) * k + s) 0 % buckets → {t u : List ℕ} → t ≡ chain (by_receipt board receipts) k
+pub chain_next : (board receipts : List ℕ) (k : ℕ) {size s : ℕ} → size ≡ receipt_size (format_of board) → s ≡ (format_of board).signature
+    → {r : ℕ} → r ≡ get_or receipts (size * k + s) 0 % buckets → {t u : List ℕ} → t ≡ chain (by_receipt board receipts) k
     → u ≡ linked t r (k + 1) → u ≡ chain (by_receipt board receipts) (k + 1)
 unfolding chain by_receipt
 chain_next board receipts k p q e c l =

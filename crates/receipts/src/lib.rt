@@ -74,9 +74,10 @@ fn link(asked: &Asked, chain: &mut [u32])
     requires { chain.old ≡ replicate chain_words 0 }
     ensures { chain.new ≡ receipt_chain asked.now.passed.board.now asked.now.receipts.now }
 {
-    let f = Format::of(asked.passed.board);
+    let size = size(asked.passed.board);
+    let signature = Format::of(asked.passed.board).signature;
     for k in 0..count(asked.passed.board, asked.receipts) {
-        let at = (f.signature + f.address) * k + f.signature;
+        let at = size * k + signature;
         chains::put(chain, bucket::of_address(asked.receipts[at]), k + 1);
     }
 }
@@ -90,23 +91,18 @@ fn start(answers: &mut [u32], total: usize)
     answers[..total].fill(Receipt::NONE);
 }
 
-// Whether an item has the address and the signature of receipt k, from 0 on.
+// Whether an item has the signature and the address of receipt k, from 0 on: they are its last words, in the order of a receipt's.
 fn is_receipt(asked: &Asked, e: Known, k: usize) -> bool
     requires known { IsKnown asked.now.passed.board.now (entry_from asked.now.passed.board.now e) e }
     requires k_bound { k < receipt_count (format_of asked.now.passed.board.now) asked.now.receipts.now }
     ensures { result ≡ matches (receipt_at (format_of asked.now.passed.board.now) asked.now.receipts.now k)
         (entry_from asked.now.passed.board.now e).item }
 {
-    let board = asked.passed.board;
-    let address = e.item.end - e.item.address;
-    let signature = e.item.address - e.item.signature;
-    let at = (signature + address) * k;
-    let given = words::part(asked.receipts, at + signature, address);
-    if !words::same_words(words::part(board, e.item.address, address), given) {
-        return false;
-    }
-    let given = words::part(asked.receipts, at, signature);
-    words::same_words(words::part(board, e.item.signature, signature), given)
+    let size = e.item.end - e.item.signature;
+    words::same_words(
+        words::part(asked.passed.board, e.item.signature, size),
+        words::part(asked.receipts, size * k, size),
+    )
 }
 
 // Gives a cast's main number to each of its receipts that has no answer yet. They are in the bucket of its address.

@@ -1,7 +1,7 @@
 -- `link` meets its contract. The loop's invariant: the table is that of the first k receipts. Assumes nothing.
 use native.Mathlib.Omega.{arith}
 use Rattle.format.proofs.Traits.{knows}
-use Rattle.receipts.proofs.Places.{placed, begins}
+use Rattle.receipts.proofs.Places.{word-inside}
 use Rattle.receipts.proofs.Buckets.{chain-begins, chain_next}
 use Rattle.receipts.proofs.link.Goals as goal
 
@@ -10,10 +10,10 @@ loop-k-init c = chain-begins c.args.asked.now.passed.board.now c.args.asked.now.
 
 pub bounds-asked-at : goal.bounds-asked-at
 bounds-asked-at c =
-    let w = knows c.of-f.ensures in
-    begins (placed c.args.asked.now.whole w.signature w.address (omega (arith, c.count-k-end.ensures)))
+    let w = knows c.of-signature.ensures in
+    word-inside c.args.asked.now.whole c.size-size.ensures w.signature (omega (arith, c.count-k-end.ensures))
 
 pub loop-k-preserved : goal.loop-k-preserved
 loop-k-preserved c =
-    let w = knows c.of-f.ensures in
-    chain_next _ _ c.loop-k.k w.signature w.address c.of_address.ensures c.loop-k.invariant c.put.ensures
+    let w = knows c.of-signature.ensures in
+    chain_next _ _ c.loop-k.k c.size-size.ensures w.signature c.of_address.ensures c.loop-k.invariant c.put.ensures
