@@ -60,6 +60,7 @@ pub trait RunningHash<const N: usize> {
     ghost small: { N ≤ 16 };
 }
 
+// The hashes of the library, each by what it begins with and what it gives in the end.
 #[derive(Clone, Copy)]
 pub struct Sha256(sha256::Hash);
 
