@@ -64,6 +64,9 @@ module _ {board : List ℕ} {e : Entry} {c : Known} (is : IsKnown board e c) whe
         → {r : Bool} → r ≡ same_words (part c.item.address (length address) board) address → r ≡ addressed m address e
     addressed-same width q s = s ∙ rw (width, ← known-main is, q, known-address is)
 
+  pub known-end : c.item.end ≡ c.item.address + (format_of board).address
+  known-end = address-end board e.place (known-item is)
+
   pub session-other : (voter : ℕ) → c.item.head.code ≢ session_type → false ≡ session_of voter e
   session-other voter n = rw (← known-code is, ne_eqb c.item.head.code session_type n)
 
