@@ -28,9 +28,9 @@ pub digest-held : {s : Hash} {m : List ℕ} → Holds s m → digest_of s ≡ sh
 unfolding digest_of sha256_words
 digest-held {m = m} g = sha2.ended_held sha256_function sixteen H0 g ∙ sym (hash_value-from (padded m) (length (padded m) / 16))
 
-pub fresh-count : {s : Hash} → s ≡ fresh → s.count ≡ 0
+pub fresh-count : {s : Hash} → s ≡ fresh → s.running.count ≡ 0
 unfolding fresh state.fresh
-fresh-count e = ap (λ (h : Hash). h.count) e
+fresh-count e = ap (λ (h : Hash). h.running.count) e
 
 -- the calls of `digest`
 pub digest-whole : (m : List ℕ) {s t : Hash} {d : List ℕ} → s ≡ fresh → t ≡ fed s m → d ≡ digest_of t → d ≡ sha256_words m

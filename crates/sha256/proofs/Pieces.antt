@@ -37,7 +37,7 @@ same-digest ps qs e = digest-pieces ps ∙ ap sha256_words e ∙ sym (digest-pie
 
 -- every call on the way is allowed, and so is `Hash::finish`, where the message has fewer than 2 ^ 64 bits (FIPS 180-4, 1)
 pub pieces-allowed : (ps : List (List ℕ)) (p : List ℕ) → length (joined ps ++ p) * 32 < 2 ^ 64
-    → ((fed_all fresh ps).count + length p) * 32 < 2 ^ 64
+    → ((fed_all fresh ps).running.count + length p) * 32 < 2 ^ 64
 pieces-allowed ps p l =
     let c = (holds-pieces fresh [] ps holds-fresh).counted in
     let n = length-append (joined ps) p in

@@ -1,4 +1,5 @@
-// What the hashes of FIPS 180-4 have in common: laws of rotations, of rounds and of feeding (proofs/), and words copied into a block.
+// What the hashes of FIPS 180-4 have in common: the rounds of a block, the blocks of a message, a running hash, and words copied into a
+// block; and laws of rotations, of rounds and of feeding (proofs/).
 #![tactic(auto)]
 
 pub mod compression;

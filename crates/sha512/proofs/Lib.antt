@@ -1,4 +1,3 @@
-pub mod Feed
 pub mod Holds
 pub mod Ending
 pub mod Written

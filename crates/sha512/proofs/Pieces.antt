@@ -50,16 +50,16 @@ same-digest512 ps qs e = digest512-pieces ps ∙ ap sha512_words e ∙ sym (dige
 -- ---- of any length that a number of 64 bits counts
 
 -- every call on the way is allowed where the message has fewer than 2 ^ 64 words; `Hash::finish384` and `Hash::finish512` always are
-allowed : (start : List ℕ) (s : Hash) (m p : List ℕ) → Holds start s m → length (m ++ p) < 2 ^ 64 → s.count + length p < 2 ^ 64
+allowed : (start : List ℕ) (s : Hash) (m p : List ℕ) → Holds start s m → length (m ++ p) < 2 ^ 64 → s.running.count + length p < 2 ^ 64
 allowed start s m p g l =
     subst (λ (n : ℕ). n < 2 ^ 64) (length-append m p ∙ sym (ap (λ (n : ℕ). n + length p) g.counted)) l
 
 pub pieces-allowed384 : (ps : List (List ℕ)) (p : List ℕ) → length (joined ps ++ p) < 2 ^ 64
-    → (fed_all fresh384 ps).count + length p < 2 ^ 64
+    → (fed_all fresh384 ps).running.count + length p < 2 ^ 64
 pieces-allowed384 ps p = allowed H0-384 (fed_all fresh384 ps) (joined ps) p (holds384 ps)
 
 pub pieces-allowed512 : (ps : List (List ℕ)) (p : List ℕ) → length (joined ps ++ p) < 2 ^ 64
-    → (fed_all fresh512 ps).count + length p < 2 ^ 64
+    → (fed_all fresh512 ps).running.count + length p < 2 ^ 64
 pieces-allowed512 ps p = allowed H0-512 (fed_all fresh512 ps) (joined ps) p (holds512 ps)
 
 -- ---- whole blocks are not stored

@@ -6,12 +6,12 @@ use Rattle.sha512_block.specs.Fips.{H0-384, H0-512, to_halves}
 use Rattle.sha512_blocks.specs.Blocks.{sha512_function}
 use Rattle.sha512.specs.declared.Hash.{Hash}
 
--- the struct and sha2's record have the same fields
+-- as sha2's record
 abbrev pub running : Hash → Running
-running s = record { chain = s.chain; block = s.block; count = s.count }
+running s = sha2.running s.running
 
 abbrev pub hash : Running → Hash
-hash s = record { chain = s.chain; block = s.block; count = s.count }
+hash s = record { running = record { chain = s.chain; block = s.block; count = s.count } }
 
 -- nothing fed yet
 unfoldable pub fresh384 : Hash

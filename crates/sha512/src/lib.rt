@@ -9,14 +9,11 @@ ghost use Rattle.sha512.specs.State.{fresh384, fresh512, fed, ended, digest384_o
 
 use sha2_common::message::{Blocks, Running};
 
-// A running hash: the chaining words, the block that is not full yet in words of 32 bits, and the number of such words fed so far. Only
-// as many words of the block as that number modulo 32 mean something. SHA-384 and SHA-512 differ in where it begins and in what is taken
-// of it in the end: who begins one and takes the other gets what the contracts say, which is neither.
+// A running hash. SHA-384 and SHA-512 differ in where it begins and in what is taken of it in the end: who begins one and takes the
+// other gets what the contracts say, which is neither.
 #[derive(Clone, Copy)]
 pub struct Hash {
-    chain: [u64; 8],
-    block: [u32; 32],
-    count: usize,
+    running: Running<u64, 32>,
 }
 
 impl Blocks<32> for Hash {
@@ -41,9 +38,11 @@ impl Hash {
         ensures { result ≡ fresh384 }
     {
         Hash {
-            chain: sha512_block::start384(),
-            block: [0; 32],
-            count: 0,
+            running: Running {
+                chain: sha512_block::start384(),
+                block: [0; 32],
+                count: 0,
+            },
         }
     }
 
@@ -52,42 +51,27 @@ impl Hash {
         ensures { result ≡ fresh512 }
     {
         Hash {
-            chain: sha512_block::start512(),
-            block: [0; 32],
-            count: 0,
+            running: Running {
+                chain: sha512_block::start512(),
+                block: [0; 32],
+                count: 0,
+            },
         }
     }
 
     // Feeds the words of a slice in order: whole blocks are read where they stand in s.
     pub fn words(self, s: &[u32]) -> Self
-        requires { self.count + length s.now < 2 ^ 64 }
+        requires { self.running.count + length s.now < 2 ^ 64 }
         ensures { result ≡ fed self s.now }
     {
-        let Hash {
-            chain,
-            block,
-            count,
-        } = self;
-        let running = Running {
-            chain,
-            block,
-            count,
-        };
-        let Running {
-            chain,
-            block,
-            count,
-        } = running.words::<Hash>(s);
         Hash {
-            chain,
-            block,
-            count,
+            running: self.running.words::<Hash>(s),
         }
     }
 
     // Feeds a word.
     pub fn word(self, w: u32) -> Self
-        requires { self.count + 1 < 2 ^ 64 }
+        requires { self.running.count + 1 < 2 ^ 64 }
         ensures { result ≡ fed self (w ∷ []) }
     {
         self.words(&[w])
@@ -97,7 +81,11 @@ impl Hash {
     fn end(self) -> [u64; 8]
         ensures { result ≡ ended self }
     {
-        last_blocks(self.chain, &self.block[..self.count % 32], self.count)
+        last_blocks(
+            self.running.chain,
+            &self.running.block[..self.running.count % 32],
+            self.running.count,
+        )
     }
 
     // The SHA-384 digest of the words that were fed: the first six words of the hash value.

@@ -16,20 +16,20 @@ use Rattle.sha256.proofs.Hash.finish.Goals as goal
 abbrev pending : Hash → List ℕ
 pending s = sha2.pending sha256_function (running s)
 
-few : (s : Hash) → length s.block ≡ 16 → length (pending s) ≡ s.count % 16
-few s n = length-take-le (s.count % 16) s.block (omega (arith, n))
+few : (s : Hash) → length s.running.block ≡ 16 → length (pending s) ≡ s.running.count % 16
+few s n = length-take-le (s.running.count % 16) s.running.block (omega (arith, n))
 
 pub slice_bounds-m-end : goal.slice_bounds-m-end
 slice_bounds-m-end c =
-    end-within c.args.self.count (pending c.args.self) (few c.args.self (search rules)) _ c.store.ensures _ _ _ _ _ _
+    end-within c.args.self.running.count (pending c.args.self) (few c.args.self (search rules)) _ c.store.ensures _ _ _ _ _ _
 
 pub slice_bounds-compress_blocks-end : goal.slice_bounds-compress_blocks-end
 slice_bounds-compress_blocks-end c =
-    length_last c.args.self.count (pending c.args.self) (few c.args.self (search rules)) _ c.store.ensures _ _ _ _ _ _
+    length_last c.args.self.running.count (pending c.args.self) (few c.args.self (search rules)) _ c.store.ensures _ _ _ _ _ _
 
 pub returns : goal.returns
 unfolding digest_of sha2.ended
 returns c =
     c.compress_blocks.ensures
-    ∙ ap (hash_over c.args.self.chain)
-    (last-blocks c.args.self.count (pending c.args.self) (few c.args.self (search rules)) _ c.store.ensures c.requires)
+    ∙ ap (hash_over c.args.self.running.chain)
+    (last-blocks c.args.self.running.count (pending c.args.self) (few c.args.self (search rules)) _ c.store.ensures c.requires)
