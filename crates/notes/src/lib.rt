@@ -118,6 +118,7 @@ fn hold(held: &Held) -> Result<(), Disagrees>
         (history_of held.now.parents.passed) }
 {
     let mut last = 0;
+    // Kept: by places, as in `receipts::link`.
     for k in 0..held.notes.len() / size(held.parents.passed.board) {
         let item = meant(held, k);
         if let Err(disagreement) = judge(held, k, item, last) {

@@ -76,6 +76,7 @@ fn link(asked: &Asked, chain: &mut [u32])
 {
     let size = size(asked.passed.board);
     let signature = Format::of(asked.passed.board).signature;
+    // Kept: by places. Over `chunks_exact(size).enumerate()` it is not proved that the count of the chunks fits (`loop-k-init-derived`).
     for k in 0..count(asked.passed.board, asked.receipts) {
         let at = size * k + signature;
         chains::put(chain, bucket::of_address(asked.receipts[at]), k + 1);
