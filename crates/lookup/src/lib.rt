@@ -41,11 +41,10 @@ pub fn first_addressed(parents: &Parents, main: bool, address: &[u32]) -> usize
     requires { length address.now ≡ (format_of parents.now.passed.board.now).address }
     ensures { result ≡ first (addressed main address.now) (history_of parents.now.passed) }
 {
-    let passed = parents.passed;
     let mut number = chains::last(parents.chain, bucket::of_address(address[0]));
     let mut found = 0;
     while number != 0 {
-        if is_addressed(&passed, number, main, address) {
+        if is_addressed(&parents.passed, number, main, address) {
             found = number;
         }
         number = chains::behind(parents.chain, number);
@@ -98,10 +97,9 @@ fn is_session_of(passed: &Passed, k: usize, voter: u32) -> bool
 pub fn latest_session(sessions: &Sessions, voter: u32) -> usize
     ensures { result ≡ last (session_of voter) (history_of sessions.now.passed) }
 {
-    let passed = sessions.passed;
     let mut k = chains::last(sessions.chain, bucket::of_voter(voter));
     while k != 0 {
-        if is_session_of(&passed, k, voter) {
+        if is_session_of(&sessions.passed, k, voter) {
             return k;
         }
         k = chains::behind(sessions.chain, k);

@@ -11,10 +11,10 @@ use Rattle.lookup.proofs.first_addressed.Given as goal
 
 abbrev pub invariant-loop-number : goal.invariant-loop-number
 invariant-loop-number l =
-    let board = l.passed.board.now in
+    let board = l.parents.passed.board.now in
     let test = addressed l.main l.address in
-    (l.number ≤ l.passed.count) × (last_in (by_address board) (of_address l.address) l.number ≡ l.number)
-    × (first test (history_of l.passed) ≡ first test (up_to board l.passed.count l.number) or_else l.found)
+    (l.number ≤ l.parents.passed.count) × (last_in (by_address board) (of_address l.address) l.number ≡ l.number)
+    × (first test (history_of l.parents.passed) ≡ first test (up_to board l.parents.passed.count l.number) or_else l.found)
 
 abbrev pub decreases-loop-number : goal.decreases-loop-number
 decreases-loop-number l = l.number

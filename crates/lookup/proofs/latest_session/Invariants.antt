@@ -10,10 +10,10 @@ use Rattle.lookup.proofs.latest_session.Given as goal
 
 abbrev pub invariant-loop-k : goal.invariant-loop-k
 invariant-loop-k l =
-    let board = l.passed.board.now in
+    let board = l.sessions.passed.board.now in
     let test = session_of l.voter in
-    (l.k ≤ l.passed.count) × (last_in (by_voter board) (of_voter l.voter) l.k ≡ l.k)
-    × (last test (history_of l.passed) ≡ last test (up_to board l.passed.count l.k))
+    (l.k ≤ l.sessions.passed.count) × (last_in (by_voter board) (of_voter l.voter) l.k ≡ l.k)
+    × (last test (history_of l.sessions.passed) ≡ last test (up_to board l.sessions.passed.count l.k))
 
 abbrev pub decreases-loop-k : goal.decreases-loop-k
 decreases-loop-k l = l.k
