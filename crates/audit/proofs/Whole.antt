@@ -2,13 +2,16 @@
 use Prim.Native.Nat.{ℕ, ◌≤◌, ◌<◌}
 use native.Mathlib.Omega.{arith}
 use mathlib.Core.Path.{◌≡◌, refl, sym, ap, ◌∙◌}
-use mathlib.Core.Bool.{true, false}
+use mathlib.Core.Bool.{Bool, true, false, not}
+use lib.Dec.{T}
+use Rattle.std.proofs.Math.Logic.{∥∥₁_elim}
+use Rattle.std.proofs.Props.{props}
 use mathlib.Core.List.{List, []}
 use lib.ListN.{length, replicate, length-replicate}
 use borrow.Author.Tests.{lt-ltb, le-ltb}
 use Rattle.model.specs.Lists.{if◌then◌otherwise◌}
 use Rattle.model.specs.Refusal.{no_fault, too_large, short_table, empty_board, bad_roll}
-use Rattle.model.specs.Roll.{is_bad_roll, on_roll}
+use Rattle.model.specs.Roll.{GoodRoll, is_bad_roll, on_roll}
 use Rattle.model.specs.Audit.{Outcome, unread, refused, accepted, audit, items, item_limit, word_limit, index_need, ballot_need, is_empty}
 use Rattle.model.specs.Report as model
 use Rattle.model.specs.Report.{report_of, table_after, index_after, ballots_after}
@@ -29,12 +32,21 @@ use Rattle.audit.specs.Tables.{Sized, Zeros, Holds}
 abbrev pub Report : Type 0
 Report = Result Accepted Refused
 
+if-not : (b : Bool) → T (not b) → b ≡ false
+if-not true n = absurd n
+if-not false n = refl
+
 -- ---- no items yet
 
 -- a chain table with no item is all zero
 pub chain-none : (bucket : ℕ → ℕ) → replicate chain_words 0 ≡ chain bucket 0
 unfolding chain
 chain-none bucket = refl
+
+-- ---- a roll that is not bad
+
+pub good-roll : (words : List ℕ) {roll : List ℕ} → ∥ GoodRoll words ∥₁ → words ≡ roll → is_bad_roll roll ≡ false
+good-roll words good same = rw same at (∥∥₁_elim good (hlevel props) (λ g. if-not (is_bad_roll words) g))
 
 -- ---- the number of an answer
 

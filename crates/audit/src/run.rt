@@ -67,8 +67,8 @@ pub fn read(submission: &Submission, index: &mut [u32], ballots: &mut [u32]) -> 
     ensures index { index.new ≡ index_after (outcome_of submission.now index ballots) index.old }
     ensures ballots { ballots.new ≡ ballots_after (outcome_of submission.now index ballots) ballots.old }
 {
-    index.fill(0);
-    ballots.fill(0);
+    words::clear(index);
+    words::clear(ballots);
     // 20 bad roll
     let Some(roll) = Roll::new(submission.roll) else {
         return refused(Refusal::BadRoll, 0);
@@ -80,7 +80,7 @@ pub fn read(submission: &Submission, index: &mut [u32], ballots: &mut [u32]) -> 
     // The chain tables, without an item.
     let mut parents = [0; Chain::WORDS];
     let mut sessions = [0; Chain::WORDS];
-    let report = run(
+    match run(
         submission.board,
         submission.verdicts,
         &roll,
@@ -88,10 +88,12 @@ pub fn read(submission: &Submission, index: &mut [u32], ballots: &mut [u32]) -> 
         ballots,
         &mut parents,
         &mut sessions,
-    );
-    if report.is_err() {
-        index.fill(0);
-        ballots.fill(0);
+    ) {
+        Ok(accepted) => Ok(accepted),
+        Err(refused) => {
+            words::clear(index);
+            words::clear(ballots);
+            Err(refused)
+        }
     }
-    report
 }

@@ -1,7 +1,7 @@
 -- One step of the audit: an item that passes is taken, and one that is refused changes nothing. Assumes nothing.
 use Prim.Native.Nat.{ℕ, ◌+◌}
 use native.Mathlib.Omega.{arith}
-use mathlib.Core.Path.{◌≡◌, refl, sym, ap}
+use mathlib.Core.Path.{◌≡◌, refl, sym, ap, subst}
 use mathlib.Core.List.{List}
 use lib.Seq.{take_all}
 use Rattle.model.specs.History.{main_number}
@@ -38,7 +38,7 @@ reached-next s n kept stands tallied chains = record {
 }
 
 -- the value of a result that has one
-in_ok : State → Result State Refusal → State
+abbrev in_ok : State → Result State Refusal → State
 in_ok d (Ok x) = x
 in_ok d (Err x) = d
 
@@ -46,12 +46,12 @@ module _ (board verdicts roll index : List ℕ) (s : State) (j : Result Known Re
   pub judged-passing : (c : Known) → j ≡ Ok c → Passing board index s.items c
   judged-passing c e = (rw e at judged).1
 
-  pub stepped-passes : (c : Known) → j ≡ Ok c → (ballots parents sessions : List ℕ) {index' ballots' parents' sessions' : List ℕ} (r : State)
+  pub stepped-passes : (c : Known) → j ≡ Ok c → (ballots parents sessions index' ballots' parents' sessions' : List ℕ) (r : State)
       → (r.items ≡ s.items + 1) × Reached board index' ballots' parents' sessions' r
       → Stepped board verdicts roll index ballots parents sessions index' ballots' parents' sessions' s (Ok r)
-  stepped-passes c e ballots parents sessions r next = record {
+  stepped-passes c e ballots parents sessions index' ballots' parents' sessions' r next = record {
     finding = sym (rw e at judged).0;
-    passed = λ n q. rw (ap (in_ok r) q) at next;
+    passed = λ n q. subst (λ (x : State). (x.items ≡ s.items + 1) × Reached board index' ballots' parents' sessions' x) (ap (in_ok r) q) next;
     failed = λ x q. absurd (cc q);
   }
 

@@ -28,18 +28,13 @@ fn pass(
     ensures { (result.items ≡ s.items + 1)
         × (Reached board.now index.new ballots.new parents.new sessions.new result) }
 {
-    let progress = Progress {
-        board,
-        index,
-        state: s,
-    };
     let addition = Addition {
         board,
         index,
         count: s.items,
         known: c,
     };
-    let rows = tally::after(&progress, ballots, c);
+    let rows = tally::after(&addition, ballots, s.ballots);
     let next = s.after(&addition, rows);
     lookup::bucket::link(&addition, parents, sessions);
     index::put(board, index, s.items, c, s.mains);

@@ -26,17 +26,12 @@ shape_of-sessions-then-board-place c = c.loop-s.invariant.sessions-size
 
 pub returns-then-board-place : goal.returns-then-board-place
 returns-then-board-place c =
-    let a = stop-ended c.args.board.now c.args.verdicts.now c.args.roll.now c.loop-s.invariant c.if-board-place.true
+    let a = stop-ended c.args.board.now c.args.verdicts.now c.args.roll.now.words.now c.loop-s.invariant c.if-board-place.true
     c.refused.result (c.refused.ensures c.args.board.now) in
     record { answer = a.0; tables = a.1 }
 
 pub close-requires : goal.close-requires
-close-requires c =
-    let reached = c.loop-s.invariant.reached in
-    record {
-      kept = (reached.kept, reached.stands, reached.tallied);
-      place_in_bounds = c.if-board-place.false;
-    }
+close-requires c = record { tallied = c.loop-s.invariant.reached.tallied; place_in_bounds = c.if-board-place.false }
 
 pub shape_of-index-then-of-eq-CLOSING : goal.shape_of-index-then-of-eq-CLOSING
 shape_of-index-then-of-eq-CLOSING c = c.loop-s.invariant.index-size
@@ -52,7 +47,7 @@ shape_of-sessions-then-of-eq-CLOSING c = c.loop-s.invariant.sessions-size
 
 pub returns-then-of-eq-CLOSING : goal.returns-then-of-eq-CLOSING
 returns-then-of-eq-CLOSING c =
-    let a = stop-closing c.args.board.now c.args.verdicts.now c.args.roll.now c.loop-s.invariant c.if-board-place.false
+    let a = stop-closing c.args.board.now c.args.verdicts.now c.args.roll.now.words.now c.loop-s.invariant c.if-board-place.false
     c.of.ensures c.if-of-eq-CLOSING.true c.close.result c.close.ensures in
     record { answer = a.0; tables = a.1 }
 
@@ -73,54 +68,52 @@ shape_of-sessions-then-s-eq-ITEMS c = c.loop-s.invariant.sessions-size
 
 pub returns-then-s-eq-ITEMS : goal.returns-then-s-eq-ITEMS
 returns-then-s-eq-ITEMS c =
-    let a = stop-full c.args.board.now c.args.verdicts.now c.args.roll.now c.loop-s.invariant c.if-board-place.false
+    let a = stop-full c.args.board.now c.args.verdicts.now c.args.roll.now.words.now c.loop-s.invariant c.if-board-place.false
     c.of.ensures c.if-of-eq-CLOSING.false c.if-s-eq-ITEMS.true
     c.refused-then-s-eq-ITEMS.result (c.refused-then-s-eq-ITEMS.ensures c.args.board.now) in
     record { answer = a.0; tables = a.1 }
 
-pub advance-step-requires : goal.advance-step-requires
-advance-step-requires c =
-    let few = c.loop-s.invariant.reached.kept.few in
-    let more = c.if-s-eq-ITEMS.false in record {
-      reached = c.loop-s.invariant.reached;
-      place_in_bounds = (c.if-board-place.false, omega arith, c.requires.good_roll);
-    }
-
-pub refused-requires-in-Fails : goal.refused-requires-in-Fails
-refused-requires-in-Fails c = c.loop-s.invariant.reached.kept.few
-
-pub shape_of-index-in-Fails : goal.shape_of-index-in-Fails
-shape_of-index-in-Fails c = c.advance-step.auto.index ∙ c.loop-s.invariant.index-size
-
-pub shape_of-ballots-in-Fails : goal.shape_of-ballots-in-Fails
-shape_of-ballots-in-Fails c = c.advance-step.auto.ballots ∙ c.loop-s.invariant.ballots-size
-
-pub shape_of-parents-in-Fails : goal.shape_of-parents-in-Fails
-shape_of-parents-in-Fails c = c.advance-step.auto.parents ∙ c.loop-s.invariant.parents-size
-
-pub shape_of-sessions-in-Fails : goal.shape_of-sessions-in-Fails
-shape_of-sessions-in-Fails c = c.advance-step.auto.sessions ∙ c.loop-s.invariant.sessions-size
-
-pub returns-in-Fails : goal.returns-in-Fails
-returns-in-Fails c =
+pub advance-requires : goal.advance-requires
+advance-requires c =
     let few = c.loop-s.invariant.reached.kept.few in
     let more = c.if-s-eq-ITEMS.false in
-    let a = stop-refused c.args.board.now c.args.verdicts.now c.args.roll.now c.loop-s.invariant c.if-board-place.false c.of.ensures
-    c.if-of-eq-CLOSING.false (omega arith) c.advance-step.ensures _ c.in-Fails.is c.refused-in-Fails.result
-    (c.refused-in-Fails.ensures c.args.board.now) in
+    record { reached = c.loop-s.invariant.reached; place_in_bounds = (c.if-board-place.false, omega arith) }
+
+pub refused-requires-in-Err : goal.refused-requires-in-Err
+refused-requires-in-Err c = c.loop-s.invariant.reached.kept.few
+
+pub shape_of-index-in-Err : goal.shape_of-index-in-Err
+shape_of-index-in-Err c = c.advance.auto.index ∙ c.loop-s.invariant.index-size
+
+pub shape_of-ballots-in-Err : goal.shape_of-ballots-in-Err
+shape_of-ballots-in-Err c = c.advance.auto.ballots ∙ c.loop-s.invariant.ballots-size
+
+pub shape_of-parents-in-Err : goal.shape_of-parents-in-Err
+shape_of-parents-in-Err c = c.advance.auto.parents ∙ c.loop-s.invariant.parents-size
+
+pub shape_of-sessions-in-Err : goal.shape_of-sessions-in-Err
+shape_of-sessions-in-Err c = c.advance.auto.sessions ∙ c.loop-s.invariant.sessions-size
+
+pub returns-in-Err : goal.returns-in-Err
+returns-in-Err c =
+    let few = c.loop-s.invariant.reached.kept.few in
+    let more = c.if-s-eq-ITEMS.false in
+    let a = stop-refused c.args.board.now c.args.verdicts.now c.args.roll.now.words.now c.loop-s.invariant c.if-board-place.false c.of.ensures
+    c.if-of-eq-CLOSING.false (omega arith) c.advance.ensures _ c.in-Err.is c.refused-in-Err.result
+    (c.refused-in-Err.ensures c.args.board.now) in
     record { answer = a.0; tables = a.1 }
 
 pub loop-s-smaller : goal.loop-s-smaller
 loop-s-smaller c =
     let few = c.loop-s.invariant.reached.kept.few in
     let more = c.if-s-eq-ITEMS.false in
-    going_less c.args.board.now c.args.verdicts.now c.args.roll.now c.loop-s.invariant c.if-board-place.false c.of.ensures
-    c.if-of-eq-CLOSING.false (omega arith) c.advance-step.ensures c.in_default.is
+    going_less c.args.board.now c.args.verdicts.now c.args.roll.now.words.now c.loop-s.invariant c.if-board-place.false c.of.ensures
+    c.if-of-eq-CLOSING.false (omega arith) c.advance.ensures _ c.in-Ok.is
 
 pub loop-s-preserved : goal.loop-s-preserved
 loop-s-preserved c =
     let few = c.loop-s.invariant.reached.kept.few in
     let more = c.if-s-eq-ITEMS.false in
-    let k = c.advance-step.auto in
-    going_on c.args.board.now c.args.verdicts.now c.args.roll.now c.loop-s.invariant c.if-board-place.false c.of.ensures c.if-of-eq-CLOSING.false
-    (omega arith) c.advance-step.ensures c.in_default.is k.index k.ballots k.parents k.sessions
+    let k = c.advance.auto in
+    going_on c.args.board.now c.args.verdicts.now c.args.roll.now.words.now c.loop-s.invariant c.if-board-place.false c.of.ensures
+    c.if-of-eq-CLOSING.false (omega arith) c.advance.ensures _ c.in-Ok.is k.index k.ballots k.parents k.sessions
