@@ -18,7 +18,7 @@ use Rattle.model.proofs.Tests.{passes, not-not}
 use Rattle.model.proofs.Above.{checked-none, checked-passes, checked-fails, good-parts}
 use Rattle.format.specs.Format.{format_of}
 use Rattle.format.proofs.Traits.{sizes}
-use Rattle.report.specs.declared.Report.{Report}
+use Rattle.audit.proofs.Whole.{Report}
 use Rattle.report.specs.Reported.{reported}
 use Rattle.receipts.specs.Answering.{Answerable}
 

@@ -1,5 +1,5 @@
 -- The answer of comparing two boards, by what their audits answered. Assumes nothing.
-use Prim.Native.Nat.{ℕ}
+use Prim.Native.Nat.{ℕ, ◌≤◌}
 use native.Mathlib.Omega.{arith}
 use mathlib.Core.Path.{◌≡◌, ◌∙◌}
 use mathlib.Core.List.{List}
@@ -10,24 +10,29 @@ use Rattle.model.specs.Comparing.{ComparingAnswer, kept_board, later_board, refu
 use Rattle.model.proofs.Lists.{count-keep}
 use Rattle.model.proofs.Entries.{orderly}
 use Rattle.model.proofs.Chain.{main-opened}
-use Rattle.index.specs.Kept.{before}
-use Rattle.report.specs.declared.Report.{Report}
-use Rattle.report.specs.declared.Answer.TheVariants as answer
-use Rattle.audit.proofs.Whole.{Audited}
+use Rattle.index.specs.Kept.{before, Kept}
+use Rattle.std.specs.Prelude.{Ok}
+use Rattle.report.specs.declared.Accepted.{Accepted}
+use Rattle.audit.specs.declared.Submission.{Submission}
+use Rattle.audit.proofs.Whole.{Report, Audited}
 use Rattle.audit.proofs.Laws.{accepted-sound, accepted-kept, accepted-mains, RefusedAs, unchanged, cleared}
-use Rattle.compare.specs.Answer.{Accepted}
 
--- what is known of a board that was accepted
-pub accepted-board : (board verdicts roll index ballots : List ℕ) (r : Report) {i b : List ℕ} → Audited board verdicts roll index ballots r i b
-    → {items mains n weight : ℕ} → r.answer ≡ answer.Accepted items mains n weight → Accepted board i items mains
-accepted-board board verdicts roll index ballots r audited {items} {mains} e =
-    let h = before board items in
-    let sound = accepted-sound board verdicts roll index ballots r audited e in
-    let all : mains ≡ count main h = accepted-mains board verdicts roll index ballots r audited e in
+-- what is known of a board that was accepted: its items pass, so many of them are main items, and the first of these opens it
+pub record BoardKnown (board index : List ℕ) (items mains : ℕ) : Type 0 where
+  pub kept : Kept board index items
+  pub mains_are : mains ≡ count main (before board items)
+  pub opened : 1 ≤ mains
+
+pub accepted-board : (submission : Submission) (index ballots : List ℕ) (r : Report) {i b : List ℕ} → Audited submission index ballots r i b
+    → {got : Accepted} → r ≡ Ok got → BoardKnown submission.board.now i got.items got.mains
+accepted-board submission index ballots r audited {got} e =
+    let h = before submission.board.now got.items in
+    let sound = accepted-sound submission index ballots r audited e in
+    let all : got.mains ≡ count main h = accepted-mains submission index ballots r audited e in
     let opened = main-opened h (orderly sound.passed) sound.opened in
     record {
-      kept = accepted-kept board verdicts roll index ballots r audited e;
-      mains = all;
+      kept = accepted-kept submission index ballots r audited e;
+      mains_are = all;
       opened = omega (arith, count-keep main (λ e. e.item) h);
     }
 

@@ -16,28 +16,29 @@ use Rattle.watch.specs.Notes.{note_limit, note_size, not_held, held, is_bad_note
 use Rattle.model.proofs.Tests.{passes, not-not}
 use Rattle.model.proofs.Above.{checked-none, checked-passes, checked-fails, good-parts}
 use Rattle.format.specs.Format.{format_of}
-use Rattle.report.specs.declared.Report.{Report}
+use Rattle.std.specs.Prelude.{Result, Err}
+use Rattle.refusal.specs.declared.Refused.{Refused}
 use Rattle.report.specs.Reported.{reported}
 use Rattle.audit.proofs.Laws.{RefusedAs, unchanged, cleared}
-use Rattle.notes.specs.declared.Agreement.TheVariants.{NotHeld}
-use Rattle.notes.specs.Holding.{Whole, agreement_of}
+use Rattle.notes.specs.Holding.{Whole}
 use Rattle.entries.specs.declared.watching.Held.{Held}
+use Rattle.entries.specs.Watching.{held_report, held_agreement}
 
 module _ (board notes index ballots : List ℕ) where
   -- the answer and the tables after it, as an outcome leaves them
-  abbrev pub Leaves : Outcome → Held → (index' ballots' : List ℕ) → Type 0
+  abbrev pub Leaves : Outcome → Result Held Refused → (index' ballots' : List ℕ) → Type 0
   Leaves o r index' ballots' =
-      (reported r.report ≡ report_of (format_of board) o)
-      × ((agreement_of r.agreement ≡ agreement (format_of board) notes o) × ((index' ≡ index_after o index) × (ballots' ≡ ballots_after o ballots)))
+      (held_report r ≡ report_of (format_of board) o)
+      × ((held_agreement r ≡ agreement (format_of board) notes o) × ((index' ≡ index_after o index) × (ballots' ≡ ballots_after o ballots)))
 
   -- before the audit, no note is held and every table stays as it was
-  pub leaves_all : (o : Outcome) {n : ℕ} → o ≡ unread n → (r : Report) → reported r ≡ report_of (format_of board) (refused n 0)
-      → Leaves o (record { report = r; agreement = NotHeld }) index ballots
+  pub leaves_all : (o : Outcome) {n : ℕ} → o ≡ unread n → (x : Refused) → reported (Err x) ≡ report_of (format_of board) (refused n 0)
+      → Leaves o (Err x) index ballots
   unfolding report_of table_after
-  leaves_all o e r told = (rw e told, (rw e, (rw e, rw e)))
+  leaves_all o e x told = (rw e told, (rw e, (rw e, rw e)))
 
   -- what one outcome leaves, an equal one leaves
-  pub leaves-same : {o o' : Outcome} → o ≡ o' → (r : Held) {index' ballots' : List ℕ} → Leaves o' r index' ballots' → Leaves o r index' ballots'
+  pub leaves-same : {o o' : Outcome} → o ≡ o' → (r : Result Held Refused) {index' ballots' : List ℕ} → Leaves o' r index' ballots' → Leaves o r index' ballots'
   leaves-same e r l = rw e l
 
 -- ---- what the notes say, by what the audit answered
