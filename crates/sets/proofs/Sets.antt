@@ -9,11 +9,12 @@ use lib.Bits.{bit_and, bit_or, or_zero_r}
 use lib.Count.{ones_in, ones}
 use lib.Dec.{eqb, ltb, eqb-suc-zero}
 use lib.ListN.{length, get_or, set, replicate, take, drop, length-take, get_or-eq_default}
-use lib.Seq.{get_or-take, take-length, get_or-set_same, get_or-set_other}
+use lib.Seq.{get_or-take, get_or-drop, take-length, get_or-set_same, get_or-set_other}
 use borrow.Author.Tests.{eqb-true, eqb-false, ne_eqb, lt-ltb, ltb-true, ltb-false}
 use Rattle.model.specs.Lists.{if◌then◌otherwise◌, ◌⇒◌, part}
 use Rattle.model.specs.Words.{same_words, bit, in_words, member, size, every_below, count_below, all_in}
 use Rattle.model.proofs.Tests.{by-test, every_below-ext}
+use Rattle.model.proofs.Parts.{length_part}
 use Rattle.model.proofs.Sets.{bit-zero, in-word, set-size}
 use Rattle.std.specs.List.{list_all, zip, sum_by}
 use Rattle.std.proofs.lemmas.List.Sums.{sum_by-cons}
@@ -122,6 +123,35 @@ size-sum (w ∷ s) small = sum_by-cons ones w s ∙ ap₂ ◌+◌ (ones-all 32 w
 pub set-size-few : (l : List ℕ) (p n : ℕ) → size (part p n l) ≤ 32 * n
 unfolding part
 set-size-few l p n = omega (arith, size_few (part p n l), length-take n (drop p l))
+
+-- ---- a set that stands among other words: n words from place p on
+
+set_word : (l : List ℕ) (p n k : ℕ) → k < n → get_or (part p n l) k 0 ≡ get_or l (p + k) 0
+unfolding part
+set_word l p n k m = get_or-take n (drop p l) k 0 m ∙ get_or-drop p l k 0
+
+set_past : (l : List ℕ) (p n k : ℕ) → n ≤ k → get_or (part p n l) k 0 ≡ 0
+unfolding part
+set_past l p n k m = get_or-eq_default (take n (drop p l)) 0 (simp length-take (omega arith))
+
+-- its words are words of 32 bits
+abbrev pub Words : List ℕ → ℕ → ℕ → Type 0
+Words l p n = (k : ℕ) → k < n → get_or l (p + k) 0 < 2 ^ 32
+
+words_small : (l : List ℕ) (p n : ℕ) → Words l p n → Small (part p n l)
+words_small l p n small k =
+    by-test (ltb k n)
+    (λ q. let less = ltb-true k n q in rw (set_word l p n k less) (small k less))
+    (λ q. rw (set_past l p n k (ltb-false k n q)) (omega arith))
+
+-- it is within one that stands at another place: `l[p + k] & !m[q + k] == 0` of every word
+module _ (l : List ℕ) (p n : ℕ) (small : Words l p n) (inside : p + n ≤ length l) where
+  pub within-at : (m : List ℕ) (q : ℕ) → Words m q n
+      → all_in (part p n l) (member (part q n m)) ≡ every_below n (λ k. eqb (bit_and (get_or l (p + k) 0) ((2 ^ 32 - 1) - get_or m (q + k) 0)) 0)
+  within-at m q words =
+      all_in-in_words (part p n l) (λ k. get_or (part q n m) k 0) (words_small l p n small) (words_small m q n words)
+      ∙ rw (length_part p n l inside)
+      (every_below-ext n _ _ (λ k less. ap₂ (λ (v w : ℕ). eqb (bit_and v ((2 ^ 32 - 1) - w)) 0) (set_word l p n k less) (set_word m q n k less)))
 
 -- ---- a set within the empty one
 

@@ -1,7 +1,7 @@
 -- Places in blocks of s words: arithmetic with / and % by s, for the two sizes that a block has.
 use mathlib.Core.Path.{◌≡◌, refl, sym, subst}
 use mathlib.Core.Logic.{◌⊎◌, inl, inr, ⊎_elim}
-use Prim.Native.Nat.{ℕ, ◌+◌, ◌-◌, ◌*◌, ◌/◌, ◌%◌, ◌≤◌, ◌<◌}
+use Prim.Native.Nat.{ℕ, suc, ◌+◌, ◌-◌, ◌*◌, ◌/◌, ◌%◌, ◌≤◌, ◌<◌}
 use native.Mathlib.Nat.{eq-or-lt_of_le}
 use native.Mathlib.Omega.{arith}
 use Rattle.sha2_common.specs.Blocks.{HashOn}
@@ -44,6 +44,9 @@ whole-add = by_size _ (λ n m p q. omega arith) (λ n m p q. omega arith)
 
 pub blocks-add : Each λ s. (n m : ℕ) → n % s ≡ 0 → (n + m) / s ≡ n / s + m / s
 blocks-add = by_size _ (λ n m p. omega arith) (λ n m p. omega arith)
+
+pub blocks-suc : Each λ s. (n : ℕ) → (n + s) / s ≡ suc (n / s)
+blocks-suc = by_size _ (λ n. omega arith) (λ n. omega arith)
 
 -- the blocks of all are those of n words, and those of what is behind them
 pub blocks-behind : Each λ s. (n m l : ℕ) → l ≡ n + m - n / s * s → n / s + l / s ≡ (n + m) / s
