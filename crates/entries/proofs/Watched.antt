@@ -1,7 +1,7 @@
 -- What holding notes answers, and what the tables hold, by its own check and by what the audit answered. Assumes nothing.
 use Prim.Native.Nat.{ℕ}
 use native.Mathlib.Omega.{arith}
-use mathlib.Core.Path.{◌≡◌, sym, ◌∙◌}
+use mathlib.Core.Path.{◌≡◌, sym, ap, ◌∙◌}
 use mathlib.Core.Bool.{Bool, true, false, not}
 use mathlib.Core.List.{List, []}
 use lib.ListN.{length}
@@ -17,6 +17,7 @@ use Rattle.model.proofs.Tests.{passes, not-not}
 use Rattle.model.proofs.Above.{checked-none, checked-passes, checked-fails, good-parts}
 use Rattle.format.specs.Format.{format_of}
 use Rattle.std.specs.Prelude.{Result, Err}
+use Rattle.refusal.specs.declared.Refusal.TheVariants.{BadNotes}
 use Rattle.refusal.specs.declared.Refused.{Refused}
 use Rattle.report.specs.Reported.{reported}
 use Rattle.audit.proofs.Laws.{RefusedAs, unchanged, cleared}
@@ -36,6 +37,11 @@ module _ (board notes index ballots : List ℕ) where
       → Leaves o (Err x) index ballots
   unfolding report_of table_after
   leaves_all o e x told = (rw e told, (rw e, (rw e, rw e)))
+
+  -- 23
+  pub bad-told : (x : Refused) → x ≡ record { refusal = BadNotes; items = 0 } → reported (Err x) ≡ report_of (format_of board) (refused bad_notes 0)
+  unfolding report_of
+  bad-told x e = ap (λ (y : Refused). reported (Err y)) e
 
   -- what one outcome leaves, an equal one leaves
   pub leaves-same : {o o' : Outcome} → o ≡ o' → (r : Result Held Refused) {index' ballots' : List ℕ} → Leaves o' r index' ballots' → Leaves o r index' ballots'

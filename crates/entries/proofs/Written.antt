@@ -1,7 +1,10 @@
 -- What exporting a board answers, and what the text buffer holds, by what the audit answered and by whether the text fits. Assumes nothing.
 use Prim.Native.Nat.{ℕ, ◌≤◌, ◌<◌}
 use mathlib.Core.Path.{◌≡◌, sym, ap, ◌∙◌}
-use Rattle.std.specs.Prelude.{Option, Some, None, leb}
+use Rattle.std.specs.Prelude.{Option, Some, None, Err, leb}
+use Rattle.refusal.specs.declared.Refusal.TheVariants.{ShortTable}
+use Rattle.refusal.specs.declared.Refused.{Refused}
+use Rattle.report.specs.Reported.{reported}
 use mathlib.Core.List.{List}
 use lib.ListN.{length}
 use borrow.Author.Tests.{leb-true, leb-false, lt-ltb, le-ltb}
@@ -31,6 +34,11 @@ some-fit room h {n} e =
     by-test (leb (length (export_text h)) room)
     (λ f. let a : Some n ≡ Some (length (export_text h)) = rw f at e in (leb-true (length (export_text h)) room f, cc a))
     (λ f. let a : Some n ≡ None = rw f at e in absurd (cc a))
+
+-- 2
+pub short-told : (f : Format) (x : Refused) → x ≡ record { refusal = ShortTable; items = 0 } → reported (Err x) ≡ report_of f (refused short_table 0)
+unfolding report_of
+short-told f x e = ap (λ (y : Refused). reported (Err y)) e
 
 module _ (f : Format) (text : List ℕ) (o : Outcome) where
   abbrev exporting : Outcome

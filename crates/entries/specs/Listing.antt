@@ -5,7 +5,7 @@ use Rattle.model.specs.Audit.{Outcome, word_limit, index_need, ballot_need, is_s
 use Rattle.model.specs.Ancestry.{list_need, ancestry_audit}
 use Rattle.format.specs.Format.{format_of}
 use Rattle.audit.specs.declared.Submission.{Submission}
-use Rattle.audit.specs.Outcome.{Slice, MutSlice}
+use Rattle.audit.specs.Outcome.{MutSlice}
 
 -- the outcome of a board with its verdicts and its roll, and the two tables and the list by their lengths
 abbrev pub listing_outcome : {D E F : Type 0} → Submission → MutSlice D → MutSlice E → MutSlice F → Outcome

@@ -7,7 +7,7 @@ use Rattle.refusal.specs.declared.Refused.{Refused}
 use Rattle.report.specs.Reported.{reported}
 use Rattle.entries.specs.declared.writing.Exported.{Exported}
 use Rattle.audit.specs.declared.Submission.{Submission}
-use Rattle.audit.specs.Outcome.{Slice, MutSlice, outcome_of}
+use Rattle.audit.specs.Outcome.{MutSlice, outcome_of}
 
 -- the outcome of a board with its verdicts and its roll, of the two tables and of the text buffer by their lengths
 abbrev pub writing_outcome : {D E F : Type 0} → Submission → MutSlice D → MutSlice E → MutSlice F → Outcome

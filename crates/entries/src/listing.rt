@@ -32,7 +32,7 @@ fn list_audited(
     ensures ballots { ballots.new ≡ ballots_after (outcome_of submission.now index ballots) ballots.old }
     ensures list { list.new ≡ list_after (outcome_of submission.now index ballots) number list.old }
 {
-    list.fill(0);
+    words::clear(list);
     let accepted = audit::audit(submission, index, ballots)?;
     let passed = Passed {
         board: submission.board,
