@@ -159,8 +159,10 @@ pub extern "C" fn tirfolma_notes(
         verdicts,
         roll,
     };
-    let held = watching::notes(&submission, notes, index, ballots);
-    answers::put_held(held, answer);
+    match watching::notes(&submission, notes, index, ballots) {
+        Ok(held) => answers::put_held(Ok(held.accepted), Some(held.agreement), answer),
+        Err(refused) => answers::put_held(Err(refused), None, answer),
+    }
     true
 }
 
@@ -186,8 +188,10 @@ pub extern "C" fn tirfolma_export(
         verdicts,
         roll,
     };
-    let exported = writing::export(&submission, index, ballots, text);
-    answers::put_exported(exported, answer);
+    match writing::export(&submission, index, ballots, text) {
+        Ok(exported) => answers::put_exported(Ok(exported.accepted), exported.bytes, answer),
+        Err(refused) => answers::put_exported(Err(refused), 0, answer),
+    }
     true
 }
 

@@ -1,2 +1,0 @@
--- What the entries for other languages write.
-pub mod Laws
