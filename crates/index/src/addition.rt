@@ -3,7 +3,8 @@ ghost use Rattle.index.specs.Known.{Passing};
 
 use crate::Known;
 
-// The board, the index table with the rows of the items that passed, how many they are, and what is known of the item after them, which passes.
+// The board, the index table with the rows of the items that passed, how many they are, and what is known of the item after them, which
+// passes.
 #[derive(Clone, Copy)]
 pub struct Addition<'a> {
     pub board: &'a [u32],

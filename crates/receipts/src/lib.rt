@@ -108,10 +108,12 @@ fn is_receipt(asked: &Asked, e: Known, k: usize) -> bool
 
 // Gives a cast's main number to each of its receipts that has no answer yet. They are in the bucket of its address.
 fn answer_cast(linked: &Linked, e: Known, number: u32, answers: &mut [u32])
-    requires known { (IsKnown linked.now.asked.passed.board.now (entry_from linked.now.asked.passed.board.now e) e) × (e.item.head.code ≡ cast_type) }
+    requires known { (IsKnown linked.now.asked.passed.board.now (entry_from linked.now.asked.passed.board.now e) e)
+        × (e.item.head.code ≡ cast_type) }
     requires room { receipt_count (format_of linked.now.asked.passed.board.now) linked.now.asked.receipts.now ≤ length answers.old }
     ensures { answers.new
-        ≡ with_cast linked.now.asked.passed.board.now linked.now.asked.receipts.now (entry_from linked.now.asked.passed.board.now e) number answers.old }
+        ≡ with_cast linked.now.asked.passed.board.now linked.now.asked.receipts.now (entry_from linked.now.asked.passed.board.now e)
+        number answers.old }
 {
     let board = linked.asked.passed.board;
     let mut k = chains::last(linked.chain, bucket::of_address(board[e.item.address]));
@@ -128,7 +130,8 @@ fn answer_cast(linked: &Linked, e: Known, number: u32, answers: &mut [u32])
 fn step(linked: &Linked, done: usize, answers: &mut [u32])
     requires done_in { done < linked.now.asked.passed.count }
     requires room { receipt_count (format_of linked.now.asked.passed.board.now) linked.now.asked.receipts.now ≤ length answers.old }
-    requires answers_value { answers.old ≡ answers_up_to linked.now.asked.passed.board.now linked.now.asked.receipts.now done (length answers.old) }
+    requires answers_value { answers.old
+        ≡ answers_up_to linked.now.asked.passed.board.now linked.now.asked.receipts.now done (length answers.old) }
     ensures { answers.new
         ≡ answers_up_to linked.now.asked.passed.board.now linked.now.asked.receipts.now (done + 1) (length answers.old) }
 {
