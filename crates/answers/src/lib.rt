@@ -157,7 +157,9 @@ fn agreement_words(agreement: Option<Result<(), Disagrees>>) -> [u32; 2]
     }
 }
 
-// Writes the words of a report, and behind them what notes say, over the first of a buffer.
+// Writes the words of a report, and behind them what notes say, over the first of a buffer. As a call it would take a refusal by 23, which
+// is given at once, half as long again.
+#[inline(always)]
 pub fn put_held(report: Report, agreement: Option<Result<(), Disagrees>>, buffer: &mut [u32])
     requires { notes_size ≤ length buffer.old }
     ensures { buffer.new ≡ overwritten (held_words (reported report) (said agreement)) buffer.old }

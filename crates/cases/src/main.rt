@@ -2,7 +2,7 @@
 // is: one for each refusal and reason, and sound ones. Refusals 1 and 2 come from boards and tables of their own; 17 is not used.
 #![tactic(auto)]
 
-ghost use Rattle.std.specs.Prelude.{◌≤◌, length};
+ghost use Rattle.std.specs.Prelude.{◌≤◌, length, IfOk};
 
 use audit::Submission;
 use format::limit::Limit;
@@ -32,11 +32,13 @@ fn words_in<'a, R: Files>(
     room: &'a mut [u32; ROOM],
 ) -> io::Result<&'a [u32]>
     requires { length kind.now ≤ KIND }
+    ensures within { IfOk result (λ words. length words.now ≤ ROOM) }
 {
+    // first, so that these zeros are written once
+    let mut bytes = [0u8; BYTES];
     let mut name = [0u8; STEM + KIND];
     let mut left = &mut name[..];
     write!(left, "{n:03}.{kind}")?;
-    let mut bytes = [0u8; BYTES];
     let size = files::read(rt, &name[..STEM + kind.len()], &mut bytes).min(BYTES);
     words::words_of(&bytes[..size], room);
     Ok(&room[..size / 4])

@@ -15,21 +15,29 @@ pub enum Phase {
 }
 
 impl Phase {
+    pub const CONFIG: Phase = Phase::Config;
+
+    pub const VOTING: Phase = Phase::Voting;
+
+    pub const EXTRACTION: Phase = Phase::Extraction;
+
+    pub const TRACK: Phase = Phase::Track;
+
     // The phase of a type, if it is in one.
     pub fn of(code: u32) -> Option<Self>
         ensures { result ≡ phase_of code }
     {
         if head::is_between(Head::GENESIS, Head::ROUND, code) {
-            return Some(Phase::Config);
+            return Some(Phase::CONFIG);
         }
         if head::is_between(Head::SESSION, Head::SPOIL, code) {
-            return Some(Phase::Voting);
+            return Some(Phase::VOTING);
         }
         if head::is_between(Head::INTENT, Head::CONFIRMATION, code) {
-            return Some(Phase::Extraction);
+            return Some(Phase::EXTRACTION);
         }
         if head::is_between(Head::TRACK, Head::SERVER_OPENING, code) {
-            return Some(Phase::Track);
+            return Some(Phase::TRACK);
         }
         None
     }

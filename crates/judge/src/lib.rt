@@ -56,8 +56,8 @@ pub fn judge(
     ensures { IsJudged progress.now.board.now verdicts.now roll.now.words.now progress.now.index.now progress.now.state result }
 {
     let board = progress.board;
-    let state = progress.state;
-    let head = Head::of(board[state.place]);
+    let place = progress.state.place;
+    let head = Head::of(board[place]);
     // 5 stranger
     let Some(row) = table::row_of(board, head.kind, head.code) else {
         return Err(Refusal::UnknownType);
@@ -67,7 +67,7 @@ pub fn judge(
         return Err(Refusal::WrongCount);
     }
     // 4 torn
-    let item = Item::at(board, state.place);
+    let item = Item::at(board, place);
     if board.len() < item.end {
         return Err(Refusal::Truncated);
     }
@@ -75,7 +75,7 @@ pub fn judge(
     let candidate = Candidate {
         board,
         index: progress.index,
-        state,
+        state: progress.state,
         known,
     };
     let listed = ListedItem {

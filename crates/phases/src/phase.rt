@@ -20,14 +20,14 @@ pub fn extraction_ok(next: &Candidate) -> bool
         return true;
     }
     let phase = Phase::of(next.known.item.head.code);
-    phase == Some(Phase::Extraction) || phase == Some(Phase::Track)
+    phase == Some(Phase::EXTRACTION) || phase == Some(Phase::TRACK)
 }
 
 // "Types 16 to 21 need a round .. open at their own time."
 pub fn open_ok(next: &Candidate) -> bool
     ensures { result ≡ open_ok (history_before next.now) (item_at next.now) }
 {
-    if Phase::of(next.known.item.head.code) != Some(Phase::Voting) {
+    if Phase::of(next.known.item.head.code) != Some(Phase::VOTING) {
         return true;
     }
     let time = words::pair_at(next.board, next.known.item.time);

@@ -83,7 +83,7 @@ unfolding item_of
 address-begins board p e = rw e (omega arith)
 
 module _ {board : List ℕ} {e : Entry} {c : Known} (is : IsKnown board e c) where
-  known-begins : c.item.address ≡ c.item.signature + (format_of board).signature
+  pub known-begins : c.item.address ≡ c.item.signature + (format_of board).signature
   known-begins = address-begins board e.place (known-item is)
 
   pub both-width : c.item.end - c.item.signature ≡ receipt_size (format_of board)

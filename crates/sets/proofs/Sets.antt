@@ -126,11 +126,11 @@ set-size-few l p n = omega (arith, size_few (part p n l), length-take n (drop p 
 
 -- ---- a set that stands among other words: n words from place p on
 
-set_word : (l : List ℕ) (p n k : ℕ) → k < n → get_or (part p n l) k 0 ≡ get_or l (p + k) 0
+pub set_word : (l : List ℕ) (p n k : ℕ) → k < n → get_or (part p n l) k 0 ≡ get_or l (p + k) 0
 unfolding part
 set_word l p n k m = get_or-take n (drop p l) k 0 m ∙ get_or-drop p l k 0
 
-set_past : (l : List ℕ) (p n k : ℕ) → n ≤ k → get_or (part p n l) k 0 ≡ 0
+pub set_past : (l : List ℕ) (p n k : ℕ) → n ≤ k → get_or (part p n l) k 0 ≡ 0
 unfolding part
 set_past l p n k m = get_or-eq_default (take n (drop p l)) 0 (simp length-take (omega arith))
 

@@ -1,9 +1,18 @@
 // The functions of FIPS 180-4, 3.2 and 4.1.2, on words of 32 bits. Those of 4.1.2 have forms that take fewer
 // instructions than the standard's, which their contracts name: x ^ y rotated is x rotated ^ y rotated, and two
 // rotations are one by the sum of their amounts.
+ghost use Rattle.std.specs.Prelude.{◌≡◌, ◌<◌};
+ghost use Rattle.sha256_block.specs.Fips as fips;
 ghost use Rattle.sha256_block.specs.Equations.{sha256_functions};
 
 use sha2_common::compression::Functions;
+
+fn rotr(x: u32, n: u32) -> u32
+    requires { (0 < n) × (n < 32) }
+    ensures { result ≡ fips.rotr n x }
+{
+    x.rotate_right(n)
+}
 
 // SHA-256, for what is the same in all hashes of the standard.
 pub struct Sha256;
@@ -27,19 +36,19 @@ impl Functions for Sha256 {
     }
 
     fn big_sigma0(x: u32) -> u32 {
-        (x ^ (x ^ x.rotate_right(9)).rotate_right(11)).rotate_right(2)
+        rotr(x ^ rotr(x ^ rotr(x, 9), 11), 2)
     }
 
     fn big_sigma1(x: u32) -> u32 {
-        (x ^ (x ^ x.rotate_right(14)).rotate_right(5)).rotate_right(6)
+        rotr(x ^ rotr(x ^ rotr(x, 14), 5), 6)
     }
 
     fn small_sigma0(x: u32) -> u32 {
-        (x ^ x.rotate_right(11)).rotate_right(7) ^ (x >> 3)
+        rotr(x ^ rotr(x, 11), 7) ^ (x >> 3)
     }
 
     fn small_sigma1(x: u32) -> u32 {
-        (x ^ x.rotate_right(2)).rotate_right(17) ^ (x >> 10)
+        rotr(x ^ rotr(x, 2), 17) ^ (x >> 10)
     }
 
     fn block_word(m: &[u32], t: usize) -> u32 {

@@ -50,7 +50,7 @@ module _ {W : Type 0} (f : Functions W) where
 
   module _ (M : List W) where
     -- it goes by the words before it alone
-    word-before : (U w : List W) (t : ℕ) → ((j : ℕ) → j < t → get_or U j f.none ≡ get_or w j f.none)
+    pub word-before : (U w : List W) (t : ℕ) → ((j : ℕ) → j < t → get_or U j f.none ≡ get_or w j f.none)
         → message_word f M U t ≡ message_word f M w t
     unfolding message_word
     word-before U w t same =
@@ -79,7 +79,7 @@ module _ {W : Type 0} (f : Functions W) where
         (eq-or-lt_of_le {n = t} {m = m} (omega arith))
 
     -- which goes by the words of that schedule, too
-    schedule-word : (m t : ℕ) → t < m → get_or (schedule f M m) t f.none ≡ message_word f M (schedule f M m) t
+    pub schedule-word : (m t : ℕ) → t < m → get_or (schedule f M m) t f.none ≡ message_word f M (schedule f M m) t
     schedule-word m t p =
         get_or-schedule m t p
         ∙ word-before (schedule f M t) (schedule f M m) t (λ j q. get_or-schedule t j q ∙ sym (get_or-schedule m j (omega arith)))

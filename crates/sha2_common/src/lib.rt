@@ -13,5 +13,9 @@ pub fn store(b: &mut [u32], at: usize, s: &[u32])
     requires { at + length s.now ≤ length b.old }
     ensures { b.new ≡ stored b.old at s.now }
 {
+    // of a piece there is often nothing to store, and a copy of nothing is a call
+    if s.is_empty() {
+        return;
+    }
     b[at..at + s.len()].copy_from_slice(s);
 }

@@ -60,21 +60,21 @@ impl Hash {
     }
 
     // Feeds the words of a slice in order: whole blocks are read where they stand in s.
-    pub fn words(self, s: &[u32]) -> Self
+    pub fn words(mut self, s: &[u32]) -> Self
         requires { self.running.count + length s.now < 2 ^ 64 }
         ensures { result ≡ fed self s.now }
     {
-        Hash {
-            running: self.running.words::<Hash>(s),
-        }
+        self.running = self.running.words::<Hash>(s);
+        self
     }
 
     // Feeds a word.
-    pub fn word(self, w: u32) -> Self
+    pub fn word(mut self, w: u32) -> Self
         requires { self.running.count + 1 < 2 ^ 64 }
         ensures { result ≡ fed self (w ∷ []) }
     {
-        self.words(&[w])
+        self = self.words(&[w]);
+        self
     }
 
     // The hash value after the words that were fed and their padding.

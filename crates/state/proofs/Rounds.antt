@@ -42,6 +42,20 @@ unfolding any_below
 any_below-false zero p out = refl
 any_below-false (suc n) p out = rw (out n) (any_below-false n p out)
 
+module _ (p : ℕ → Bool) where
+  -- one that passes is enough
+  pub any_below-found : (n k : ℕ) → k < n → p k ≡ true → any_below n p ≡ true
+  unfolding any_below
+  any_below-found zero k l q = absurd (not-suc-le-zero l)
+  any_below-found (suc n) k l q =
+      by-test (eqb k n)
+      (λ e. rw (← eqb-true k n e, q))
+      (λ e. rw (any_below-found n k (omega (arith, eqb-false k n e)) q) (or-true (p n)))
+
+  pub any_below-next : (k : ℕ) → any_below (k + 1) p ≡ (p k || any_below k p)
+  unfolding any_below
+  any_below-next k = rw add-one
+
 -- r passes where q does, which does not at n, and perhaps at n
 any_below-put : (m n : ℕ) (q r : ℕ → Bool) → n < m → q n ≡ false → ((j : ℕ) → (n ≡ j → ⊥) → r j ≡ q j)
     → any_below m r ≡ (r n || any_below m q)

@@ -104,7 +104,7 @@ fn earliest(test: bool, n: usize, old: usize) -> usize
 fn is_config(code: u32) -> bool
     ensures { result ≡ between 1 6 code }
 {
-    Phase::of(code) == Some(Phase::Config)
+    Phase::of(code) == Some(Phase::CONFIG)
 }
 
 // The defined contests with the next item: a type 3 defines one.

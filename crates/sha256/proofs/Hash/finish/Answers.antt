@@ -30,6 +30,6 @@ slice_bounds-compress_blocks-end c =
 pub returns : goal.returns
 unfolding digest_of sha2.ended
 returns c =
-    c.compress_blocks.ensures
+    c.compress_blocks-self.ensures
     ∙ ap (hash_over c.args.self.running.chain)
     (last-blocks c.args.self.running.count (pending c.args.self) (few c.args.self (search rules)) _ c.store.ensures c.requires)

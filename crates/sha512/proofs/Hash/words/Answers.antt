@@ -5,4 +5,4 @@ use Rattle.sha512.proofs.Hash.words.Goals as goal
 
 pub returns : goal.returns
 unfolding fed
-returns c = ap hash c.words.ensures
+returns c = ap hash c.words-self.ensures

@@ -6,4 +6,4 @@ use Rattle.sha256_block.proofs.functions.Sha256Functions.big_sigma1.Goals as goa
 
 pub returns : goal.returns
 unfolding big_sigma1
-returns c = three-rotations 32 6 5 14 c.args.x (omega arith) c.ranges.x.fits c.rotate_right.ensures c.rotate_right-2.ensures c.rotate_right-3.ensures
+returns c = three-rotations 32 6 5 14 c.args.x (omega arith) c.ranges.x.fits c.rotr.ensures c.rotr-2.ensures c.rotr-3.ensures

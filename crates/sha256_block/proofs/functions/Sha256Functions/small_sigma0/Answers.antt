@@ -6,4 +6,4 @@ use Rattle.sha256_block.proofs.functions.Sha256Functions.small_sigma0.Goals as g
 
 pub returns : goal.returns
 unfolding small_sigma0
-returns c = two-rotations-shift 32 7 11 3 c.args.x (omega arith) c.ranges.x.fits c.rotate_right.ensures c.rotate_right-2.ensures
+returns c = two-rotations-shift 32 7 11 3 c.args.x (omega arith) c.ranges.x.fits c.rotr.ensures c.rotr-2.ensures

@@ -6,4 +6,4 @@ use Rattle.sha256_block.proofs.functions.Sha256Functions.small_sigma1.Goals as g
 
 pub returns : goal.returns
 unfolding small_sigma1
-returns c = two-rotations-shift 32 17 2 10 c.args.x (omega arith) c.ranges.x.fits c.rotate_right.ensures c.rotate_right-2.ensures
+returns c = two-rotations-shift 32 17 2 10 c.args.x (omega arith) c.ranges.x.fits c.rotr.ensures c.rotr-2.ensures
