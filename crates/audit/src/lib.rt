@@ -22,8 +22,8 @@ pub struct Submission<'a> {
 }
 
 // Audits a board with its verdict words and the roll of its voters. The index table and the ballot table are lent for writing: the word
-// limit and 2 change neither, every later refusal leaves both all zero, and acceptance leaves the rows and zeros. It is put into its callers:
-// who passes a board that is refused before it is read then needs no room for its words.
+// limit and 2 change neither, every later refusal leaves both all zero, and acceptance leaves the rows and zeros. It is compiled into its
+// callers: who passes a board that is refused before it is read then needs no room for its words.
 #[inline(always)]
 pub fn audit(submission: &Submission, index: &mut [u32], ballots: &mut [u32]) -> Report
     ensures answer { reported result ≡ report_of (format_of submission.now.board.now) (outcome_of submission.now index ballots) }
