@@ -1,15 +1,18 @@
 -- Laws of words in hexadecimal, put into bytes digit by digit and word by word. Paper: request (xi). Assumes nothing.
-use Prim.Native.Nat.{ℕ, ◌+◌, ◌*◌, ◌/◌, ◌%◌, ◌^◌, ◌≤◌, ◌<◌}
+use Prim.Native.Nat.{ℕ, ◌+◌, ◌-◌, ◌*◌, ◌/◌, ◌%◌, ◌^◌, ◌≤◌, ◌<◌}
 use native.Mathlib.Numerals.{add-one}
 use native.Mathlib.Omega.{arith}
-use mathlib.Core.Path.{◌≡◌, ap, subst}
+use mathlib.Core.Path.{◌≡◌, ap, subst, ◌∙◌}
 use mathlib.Core.List.{List, [], ◌∷◌, ◌++◌, append-nil}
 use lib.ListN.{length, take, get_or}
-use lib.Seq.{take-suc, take_all}
+use lib.Seq.{sets, take-suc, take_all}
+use Rattle.std.proofs.lemmas.List.{drop_all}
+use borrow.Rule.Slice.PartMut.{put_mid}
+use Rattle.words.proofs.Writing.{sets_first, part-sets}
 use Rattle.exporting.specs.Export.{word_digits, hex_digit, hex_digits, hex_word, hex_words}
 use Rattle.exporting.proofs.Hex.{length-hex_word, hex_words-append}
 use Rattle.text.specs.declared.writer.Writer.{Writer}
-use Rattle.text.specs.Put.{Writes}
+use Rattle.text.specs.Put.{Put, Writes}
 use Rattle.text.proofs.Placed.{writes-none, writes_then}
 
 -- ---- a word
@@ -21,7 +24,20 @@ pub word-digits : (w : ℕ) → hex_word w
 unfolding hex_word hex_digits
 word-digits w = let last : w / 1 % 16 ≡ w % 16 = omega arith in rw last
 
+-- bytes written over as many are all that stands there
+pub sets-all : (ds l : List ℕ) → length l ≡ length ds → sets l 0 ds ≡ ds
+sets-all ds l same = sets_first l ds (omega arith) ∙ rw (drop_all (length ds) l (omega arith)) (append-nil ds)
+
 -- ---- words
+
+-- a word written over the part of a buffer from a place on
+pub put-part : (l : List ℕ) (at w : ℕ) {digits : List ℕ} → digits ≡ hex_word w → at + word_digits ≤ length l
+    → Put l at (hex_word w) (put_mid at (at + word_digits - at) l digits) (at + word_digits)
+put-part l at w {digits} same room = record {
+  fits = omega (arith, room, length-hex_word w);
+  wrote = part-sets l digits (hex_word w) at (at + word_digits) same (omega (arith, length-hex_word w)) room;
+  behind = omega (arith, length-hex_word w);
+}
 
 pub put-words-none : (u : Writer) → u.at ≤ length u.out.now → Writes u (hex_words []) u
 unfolding hex_words

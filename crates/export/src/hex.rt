@@ -18,29 +18,31 @@ fn digit(n: u32) -> u8
     HEX[(n % 16) as usize]
 }
 
-// The digits of a word, the high one first.
-fn put_word(out: &mut Writer, w: u32)
-    requires { out.old.at + word_digits ≤ length out.old.out.now }
-    ensures { Writes out.old (hex_word w) out.new }
+// Writes the digits of a word, the high one first, over eight bytes.
+fn put_word(out: &mut [u8], w: u32)
+    requires { length out.old ≡ word_digits }
+    ensures { out.new ≡ hex_word w }
 {
-    out.bytes(&[
-        digit(w >> 28),
-        digit(w >> 24),
-        digit(w >> 20),
-        digit(w >> 16),
-        digit(w >> 12),
-        digit(w >> 8),
-        digit(w >> 4),
-        digit(w),
-    ]);
+    out[0] = digit(w >> 28);
+    out[1] = digit(w >> 24);
+    out[2] = digit(w >> 20);
+    out[3] = digit(w >> 16);
+    out[4] = digit(w >> 12);
+    out[5] = digit(w >> 8);
+    out[6] = digit(w >> 4);
+    out[7] = digit(w);
 }
 
-// Words, one behind the other.
+// Words, one behind the other. The writer's place moves once, behind them all: handed to `Writer::bytes` word by word, their digits took a
+// seventh more instructions, and the export missed its bar of speed (docs/DESIGN-PASS.md).
 pub fn put_words(out: &mut Writer, words: &[u32])
     requires { out.old.at + word_digits * length words.now ≤ length out.old.out.now }
     ensures { Writes out.old (hex_words words.now) out.new }
 {
+    let mut at = out.at;
     for word in words {
-        put_word(out, *word);
+        put_word(&mut out.out[at..at + DIGITS], *word);
+        at += DIGITS;
     }
+    out.at = at;
 }

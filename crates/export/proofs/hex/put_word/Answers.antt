@@ -1,5 +1,5 @@
 -- `export::hex::put_word` meets its contract: its eight digits. Assumes nothing.
-use Rattle.export.proofs.Digits.{word-digits}
+use Rattle.export.proofs.Digits.{word-digits, sets-all}
 use Rattle.export.proofs.hex.put_word.Goals as goal
 
 pub returns : goal.returns
@@ -15,4 +15,4 @@ returns c =
       ← c.digit-7.ensures,
       ← c.digit-8.ensures,
     )
-    c.bytes.ensures
+    (sets-all _ c.args.out.now c.requires)

@@ -7,4 +7,5 @@ use Rattle.export.proofs.hex.put_words.Given as goal
 
 abbrev pub invariant-loop-word : goal.invariant-loop-word
 invariant-loop-word l =
-    (Writes l.initial.out (hex_words (take l.word-index l.words)) l.out) × (l.out.at ≡ l.initial.out.at + word_digits * l.word-index)
+    (Writes l.initial.out (hex_words (take l.word-index l.words)) (record { out = l.out.out; at = l.at }))
+    × (l.at ≡ l.initial.out.at + word_digits * l.word-index)
